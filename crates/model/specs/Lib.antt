@@ -1,0 +1,10 @@
+pub mod Model
+pub mod Calls
+pub mod Points
+pub mod Moving
+pub mod Sound
+pub mod Erasing
+pub mod Later
+pub mod Frames
+pub mod Walk
+pub mod Numbers

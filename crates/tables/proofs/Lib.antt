@@ -1,0 +1,4 @@
+pub mod ReadLaws
+pub mod MakeLaws
+pub mod LinkLaws
+pub mod ChangeLaws

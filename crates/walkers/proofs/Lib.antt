@@ -1,0 +1,4 @@
+mod Places
+mod Turns
+mod Regions
+mod Backs
