@@ -1,0 +1,16 @@
+pub mod Lists
+pub mod Chains
+pub mod Marks
+pub mod Moments
+pub mod Moves
+pub mod Once
+pub mod Taken
+pub mod Circle
+pub mod Waits
+pub mod Answers
+pub mod Complete
+pub mod Closed
+pub mod Views
+pub mod Plainly
+pub mod Examples
+pub mod Lawful

@@ -1,0 +1,14 @@
+pub mod Sizes
+pub mod Recorded
+pub mod Reals
+pub mod Marking
+pub mod Batch
+pub mod Chain
+pub mod Agreeing
+pub mod Follow
+pub mod Counting
+pub mod Lawful
+pub mod Closing
+pub mod Deciding
+pub mod Runs
+pub mod Whole
