@@ -1,0 +1,4 @@
+//! Orders as text: one operation a line.
+pub mod line;
+pub mod load;
+pub mod reason;
