@@ -1,4 +1,7 @@
 //! The law of a driver's worklist, over any store and any conversion.
+
+#![tactic(auto)]
+
 ghost use Rattle.law.specs.Law.{Law};
 ghost use Rattle.law.specs.Example.{Cases};
 

@@ -1,4 +1,7 @@
 //! Identities, values and refusals; what a store means, and the laws of it, are in specs/ and proofs/.
+
+#![tactic(auto)]
+
 pub mod ids;
 pub mod limits;
 pub mod points;

@@ -1,4 +1,7 @@
 //! Orders as text: one operation a line.
+
+#![tactic(auto)]
+
 pub mod line;
 pub mod load;
 pub mod reason;

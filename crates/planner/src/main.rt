@@ -1,4 +1,7 @@
 //! Reads an order from standard input, makes it in a store, and prints what the store holds.
+
+#![tactic(auto)]
+
 mod edit;
 mod listing;
 

@@ -1,4 +1,7 @@
 //! Changing a store: listeners, insertion points, and the calls that change.
+
+#![tactic(auto)]
+
 pub mod listener;
 pub mod rewriter;
 

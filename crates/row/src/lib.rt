@@ -1,3 +1,5 @@
+#![tactic(auto)]
+
 // An inline bounded list of Copy elements.
 mod store;
 

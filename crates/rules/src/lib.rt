@@ -1,4 +1,7 @@
 //! The rules of the driver: what it keeps, what a conversion means to it, and what each step does. They stand in specs/.
+
+#![tactic(auto)]
+
 ghost use Rattle.rules.specs.Determined.{RulesDetermined};
 ghost use Rattle.rules.specs.Law.{DriverLaw};
 

@@ -1,4 +1,7 @@
 //! Tables of slots that are used again under new generations.
+
+#![tactic(auto)]
+
 pub mod table;
 
 pub use table::{Slot, State, Table};

@@ -1,4 +1,7 @@
 //! Runs calls on a store and a rewriter, one a line, and prints what each answers.
+
+#![tactic(auto)]
+
 mod bench;
 mod calls_read;
 mod show;

@@ -1,4 +1,7 @@
 //! Walks over the tables of a store.
+
+#![tactic(auto)]
+
 pub mod nodes;
 pub mod parts;
 pub mod walkers;
