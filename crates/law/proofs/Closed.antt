@@ -22,7 +22,7 @@ module _ (S : Setting) (L : Laws S) where
 
   once : (ms : List (Moment S)) (s : State S) → Marked S L ms s → (new : List (Moment S)) (t : State S) → Closes S s new t → Apart (rewrites_of (ms ++ new))
   once ms s m new t c =
-      subst Apart (sym (each_append S rewrite_of ms new)) (elim c.at-most-it [
+      subst Apart (sym (each_append S rewrite_of ms new)) (elim c.at_most_it [
         | inl e ↦ subst (λ zs. Apart (rewrites_of ms ++ zs)) (sym e) (apart_append (rewrites_of ms) [] m.once tt (λ y i j. j))
         | inr e ↦ subst (λ zs. Apart (rewrites_of ms ++ zs)) (sym e.0) (apart_append (rewrites_of ms) (c.front ∷ []) m.once (λ i. i, tt) (λ y i j. elim j [
           | inl d ↦ elim (m.done y i) [
@@ -36,7 +36,7 @@ module _ (S : Setting) (L : Laws S) where
   ready : (s : State S) (new : List (Moment S)) (t : State S) → Closes S s new t → (x : S.Op) → In x (rewrites_of new)
       → (S.live s.env x ≡ true) × (S.convertible s.env x ≡ true) × ((d : S.Op) → In d (S.definers s.env x) → due S s.env s.marks d ≡ false)
   ready s new t c x i =
-      elim c.at-most-it [
+      elim c.at_most_it [
         | inl e ↦ absurd (subst (In x) e i)
         | inr e ↦ elim (subst (In x) e.0 i) [
           | inl d ↦ subst (λ z. (S.live s.env z ≡ true) × (S.convertible s.env z ≡ true) × ((d : S.Op) → In d (S.definers s.env z) → due S s.env s.marks d ≡ false)) (sym d)
@@ -51,6 +51,6 @@ module _ (S : Setting) (L : Laws S) where
     closed_ready = λ new t c. ready s new t c;
     closed_waits = λ new t c.
         let n = length (ever_of (ms ++ new)) in
-        halves t.waits n (subst (λ w. 2 * w + n ≤ n * n) (sym c.no-wait) (room_grows s.waits (length (ever_of ms)) n (ever_grows S L ms new) (waits_few S L ms s h)));
-    closed_taken = λ new t c. omega (arith, taken_few S L ms s h, c.taken-one, c.no-wait, ever_grows S L ms new, ap length c.is_front);
+        halves t.waits n (subst (λ w. 2 * w + n ≤ n * n) (sym c.no_wait) (room_grows s.waits (length (ever_of ms)) n (ever_grows S L ms new) (waits_few S L ms s h)));
+    closed_taken = λ new t c. omega (arith, taken_few S L ms s h, c.taken_one, c.no_wait, ever_grows S L ms new, ap length c.is_front);
   }

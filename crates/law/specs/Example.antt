@@ -67,7 +67,7 @@ made true = 3 ∷ []
 abbrev pub example : Shape → Setting
 example h = record {
   Op = ℕ;
-  same = eqb;
+  same = nat_eq;
   Env = Stage;
   Good = λ e. Unit {0};
   live = alive;

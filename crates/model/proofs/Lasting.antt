@@ -94,9 +94,9 @@ module _ (m : Model) where
     distinct = c.distinct;
     regions_in = λ s g y h e r i.
         let t = was (reused v w) m.ops _ (changed_uses m v w) s g y e in
-        c.regions-in s g t.0 h t.1 r (subst (Among r) (same t.0 y t.2) i);
-    blocks_in = c.blocks-in;
-    ops_in = c.ops-in;
+        c.regions_in s g t.0 h t.1 r (subst (Among r) (same t.0 y t.2) i);
+    blocks_in = c.blocks_in;
+    ops_in = c.ops_in;
   }
     where
       same : (x y : Operation) → (y ≡ x) ⊎ (y ≡ reused v w x) → y.regions ≡ x.regions

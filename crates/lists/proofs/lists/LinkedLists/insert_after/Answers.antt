@@ -13,12 +13,11 @@ link-requires c =
       next = rw c.at-links.ensures (place_next _ _ s c.args.mark);
     }
 
-pub invariant-of-self : goal.invariant-of-self
-invariant-of-self c = (
-  ∣ (insert_after_lem _ _ (sound _ _ c.args.self.now.sound) _ _ c.args.node c.unwrap-container.result c.args.mark c.at-links.result c.at-links.ensures
-      c.unwrap-container.ensures (c.link.ensures.links, c.link.ensures.ends) c.requires.node c.requires.unlinked).0 ∣₁,
-  tt,
-)
+pub invariant_of-self : goal.invariant_of-self
+invariant_of-self c = record {
+  sound = ∣ (insert_after_lem _ _ (sound _ _ c.args.self.now.sound) _ _ c.args.node c.unwrap-container.result c.args.mark c.at-links.result c.at-links.ensures
+      c.unwrap-container.ensures (c.link.ensures.links, c.link.ensures.ends) c.requires.node c.requires.unlinked).0 ∣₁;
+}
 
 pub returns : goal.returns
 returns c =

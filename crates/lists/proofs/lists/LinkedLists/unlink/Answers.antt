@@ -13,12 +13,11 @@ unlink-requires c =
       next = rw c.at-links.ensures (place_next _ _ s c.args.node);
     }
 
-pub invariant-of-self : goal.invariant-of-self
-invariant-of-self c = (
-  ∣ (unlink _ _ (sound _ _ c.args.self.now.sound) _ _ c.args.node c.unwrap-container.result c.at-links.result c.at-links.ensures
-      c.unwrap-container.ensures (c.unlink.ensures.links, c.unlink.ensures.ends)).0 ∣₁,
-  tt,
-)
+pub invariant_of-self : goal.invariant_of-self
+invariant_of-self c = record {
+  sound = ∣ (unlink _ _ (sound _ _ c.args.self.now.sound) _ _ c.args.node c.unwrap-container.result c.at-links.result c.at-links.ensures
+      c.unwrap-container.ensures (c.unlink.ensures.links, c.unlink.ensures.ends)).0 ∣₁;
+}
 
 pub returns : goal.returns
 returns c =

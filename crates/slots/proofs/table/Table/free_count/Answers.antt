@@ -5,8 +5,8 @@ use Rattle.slots.proofs.CellLaws.{frees_step, frees_few}
 use Rattle.slots.proofs.table.Table.free_count.Goals as goal
 use Rattle.slots.proofs.table.Table.free_count.Goals.{then-vacant, else-vacant}
 
-pub overflow-add-count : goal.overflow-add-count
-overflow-add-count g c =
+pub overflow_add-count : goal.overflow_add-count
+overflow_add-count g c =
     let lt : c.loop-i.i < length (cells c.args.self.now) = omega arith in
     omega (arith, c.loop-i.invariant, frees_step (cells c.args.self.now) c.loop-i.i true lt c.if-vacant.ensures, frees_few (cells c.args.self.now))
 

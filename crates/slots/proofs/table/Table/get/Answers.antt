@@ -6,14 +6,14 @@ use Rattle.slots.proofs.table.Table.get.Goals as goal
 pub returns-then-slot-len : goal.returns-then-slot-len
 returns-then-slot-len g c = sym (ap (λ k. under k c.args.generation) (cell_past (vec_items c.args.self.now.slots) c.args.slot (omega arith)))
 
-pub returns-then-is-under : goal.returns-then-is-under
-returns-then-is-under g c =
+pub returns-then-is_under : goal.returns-then-is_under
+returns-then-is_under g c =
     let x = c.index-at.result.now in
     sym (ap (λ k. under k c.args.generation) (cell_read (vec_items c.args.self.now.slots) c.args.slot x (omega arith) c.index-at.ensures)
-    ∙ under_bare x.content x.state c.args.generation ∙ ap (λ b. cond b (Some x.content) None) (sym c.if-is-under.ensures))
+    ∙ under_bare x.content x.state c.args.generation ∙ ap (λ b. cond b (Some x.content) None) (sym c.if-is_under.ensures))
 
-pub returns-else-is-under : goal.returns-else-is-under
-returns-else-is-under g c =
+pub returns-else-is_under : goal.returns-else-is_under
+returns-else-is_under g c =
     let x = c.index-at.result.now in
     sym (ap (λ k. under k c.args.generation) (cell_read (vec_items c.args.self.now.slots) c.args.slot x (omega arith) c.index-at.ensures)
-    ∙ under_bare x.content x.state c.args.generation ∙ ap (λ b. cond b (Some x.content) None) (sym c.if-is-under.ensures))
+    ∙ under_bare x.content x.state c.args.generation ∙ ap (λ b. cond b (Some x.content) None) (sym c.if-is_under.ensures))

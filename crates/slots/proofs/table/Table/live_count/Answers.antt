@@ -5,8 +5,8 @@ use Rattle.slots.proofs.CellLaws.{lives_step, lives_few}
 use Rattle.slots.proofs.table.Table.live_count.Goals as goal
 use Rattle.slots.proofs.table.Table.live_count.Goals.{then-occupied, else-occupied}
 
-pub overflow-add-count : goal.overflow-add-count
-overflow-add-count g c =
+pub overflow_add-count : goal.overflow_add-count
+overflow_add-count g c =
     let lt : c.loop-i.i < length (cells c.args.self.now) = omega arith in
     omega (arith, c.loop-i.invariant, lives_step (cells c.args.self.now) c.loop-i.i true lt c.if-occupied.ensures, lives_few (cells c.args.self.now))
 

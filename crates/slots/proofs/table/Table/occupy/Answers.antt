@@ -7,8 +7,8 @@ use Rattle.slots.proofs.table.Table.occupy.Goals as goal
 pub index-requires : goal.index-requires
 index-requires g c = omega (arith, free_slot_within (vec_items c.args.self.now.slots) c.args.slot c.requires)
 
-pub index-mut-requires : goal.index-mut-requires
-index-mut-requires g c = omega (arith, free_slot_within (vec_items c.args.self.now.slots) c.args.slot c.requires)
+pub index_mut-requires : goal.index_mut-requires
+index_mut-requires g c = omega (arith, free_slot_within (vec_items c.args.self.now.slots) c.args.slot c.requires)
 
 pub returns : goal.returns
 returns g c =

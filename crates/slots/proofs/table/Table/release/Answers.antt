@@ -15,7 +15,7 @@ returns g c =
     let xs = vec_items c.args.self.now.slots in
     let s = c.args.slot in
     let x = c.index.result.now in
-    let y = c.index-mut.result.now in
-    let same = sym (state_read xs s x (omega arith) c.index.ensures) ∙ state_read xs s y (omega arith) c.index-mut.ensures.value in
-    let gone = retired_bare y.content y.state c.after-release-state.result (c.after-release-state.ensures ∙ ap (λ q. retired (bare q)) same) in
-    map-set cell_of xs s _ ∙ ap (set (map cell_of xs) s) (gone ∙ ap retired (sym (cell_read xs s y (omega arith) c.index-mut.ensures.value)))
+    let y = c.index_mut.result.now in
+    let same = sym (state_read xs s x (omega arith) c.index.ensures) ∙ state_read xs s y (omega arith) c.index_mut.ensures.value in
+    let gone = retired_bare y.content y.state c.after_release-state.result (c.after_release-state.ensures ∙ ap (λ q. retired (bare q)) same) in
+    map-set cell_of xs s _ ∙ ap (set (map cell_of xs) s) (gone ∙ ap retired (sym (cell_read xs s y (omega arith) c.index_mut.ensures.value)))
