@@ -5,4 +5,4 @@ use Rattle.tables.specs.View.{view_block}
 use Rattle.tables.proofs.tables.Tables.block_id.Goals as goal
 
 pub returns : goal.returns
-returns c = ap (λ g. record { slot = c.args.slot; generation = g }) (c.live-generation-generation.ensures ∙ sym (live_of_viewed view_block (cells c.args.self.now.blocks) c.args.slot))
+returns c = ap (λ g. record { slot = c.args.slot; generation = g }) (c.live_generation-generation.ensures ∙ sym (live_of_viewed view_block (cells c.args.self.now.blocks) c.args.slot))

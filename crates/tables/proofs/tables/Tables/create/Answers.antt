@@ -17,10 +17,10 @@ returns c =
     let s = c.args.slot in
     let p = c.args.point in
     let q = some_is (region_at (view t) p) c.requires.linked in
-    let h = c.link-block.ensures q.0 q.1 in
+    let h = c.link_block.ensures q.0 q.1 in
     let blocks = view_occupied view_block cs (cells c.occupy-generation.new.self) s c.occupy-generation.result _ c.occupy-generation.ensures.cells c.occupy-generation.ensures.was in
-    let lists = members_put t.block_lists c.link-block.new.lists _ _ _ _ h in
-    let places = home_put t.block_lists c.link-block.new.lists _ _ _ _ h in
+    let lists = members_put t.block_lists c.link_block.new.lists _ _ _ _ h in
+    let places = home_put t.block_lists c.link_block.new.lists _ _ _ _ h in
     record {
       is = ap (λ g. record { slot = s; generation = g }) (sym (ap next_of (cell_at_viewed view_block cs s ∙ ap (viewed view_block) c.occupy-generation.ensures.was)));
       after = (λ i. record { ops = op_cells t; blocks = blocks i; regions = cells t.regions; ops_of = members t.op_lists; home_of = home t.op_lists; blocks_of = lists i; place_of = places i })

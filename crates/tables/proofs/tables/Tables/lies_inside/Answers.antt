@@ -12,12 +12,12 @@ loop-init c =
     let e : length cs - 0 ≡ length cs = omega arith in
     ap (λ n. inside_by n (view c.args.self.now) c.args.op c.args.block) (e ∙ sym (length-map cs (viewed view_op)))
 
-pub returns-in-default : goal.returns-in-default
-returns-in-default c =
+pub returns-in_default : goal.returns-in_default
+returns-in_default c =
     let n = length (cells c.args.self.now.operations) in
     let i = c.loop.counter in
     let e : n - i ≡ suc (n - (i + 1)) = omega arith in
-    sym (inside_none (view c.args.self.now) c.args.op c.loop.at (n - i) (n - (i + 1)) e (sym c.in-default.ensures)) ∙ c.loop.invariant
+    sym (inside_none (view c.args.self.now) c.args.op c.loop.at (n - i) (n - (i + 1)) e (sym c.in_default.ensures)) ∙ c.loop.invariant
 
 pub returns-then-owner-op : goal.returns-then-owner-op
 returns-then-owner-op c =
@@ -26,19 +26,19 @@ returns-then-owner-op c =
     let e : n - i ≡ suc (n - (i + 1)) = omega arith in
     sym (inside_here (view c.args.self.now) c.args.op c.loop.at (n - i) (n - (i + 1)) e c.in-Some.owner (sym c.in-Some.ensures) c.if-owner-op.true) ∙ c.loop.invariant
 
-pub returns-in-default-home-of : goal.returns-in-default-home-of
-returns-in-default-home-of c =
+pub returns-in_default-home_of : goal.returns-in_default-home_of
+returns-in_default-home_of c =
     let n = length (cells c.args.self.now.operations) in
     let i = c.loop.counter in
     let e : n - i ≡ suc (n - (i + 1)) = omega arith in
-    sym (inside_top (view c.args.self.now) c.args.op c.loop.at (n - i) (n - (i + 1)) e c.in-Some.owner (sym c.in-Some.ensures) c.if-owner-op.false (sym c.in-default-home-of.ensures)) ∙ c.loop.invariant
+    sym (inside_top (view c.args.self.now) c.args.op c.loop.at (n - i) (n - (i + 1)) e c.in-Some.owner (sym c.in-Some.ensures) c.if-owner-op.false (sym c.in_default-home_of.ensures)) ∙ c.loop.invariant
 
 pub loop-preserved : goal.loop-preserved
 loop-preserved c =
     let n = length (cells c.args.self.now.operations) in
     let i = c.loop.counter in
     let e : n - i ≡ suc (n - (i + 1)) = omega arith in
-    sym (inside_on (view c.args.self.now) c.args.op c.loop.at (n - i) (n - (i + 1)) e c.in-Some.owner c.in-Some-home-of.home (sym c.in-Some.ensures) c.if-owner-op.false (sym c.in-Some-home-of.ensures)) ∙ c.loop.invariant
+    sym (inside_on (view c.args.self.now) c.args.op c.loop.at (n - i) (n - (i + 1)) e c.in-Some.owner c.in-Some-home_of.home (sym c.in-Some.ensures) c.if-owner-op.false (sym c.in-Some-home_of.ensures)) ∙ c.loop.invariant
 
 pub returns : goal.returns
 returns c =

@@ -16,8 +16,8 @@ returns c =
     let t = c.args.self.now in
     let cs = cells t.operations in
     let s = c.args.slot in
-    let h = c.open-regions-regions.ensures in
-    let is = ap (λ g. record { slot = s; generation = g }) (c.next-generation-generation.ensures ∙ sym (ap next_of (cell_at_viewed view_op cs s) ∙ next_viewed view_op (cell_at cs s))) in
+    let h = c.open_regions-regions.ensures in
+    let is = ap (λ g. record { slot = s; generation = g }) (c.next_generation-generation.ensures ∙ sym (ap next_of (cell_at_viewed view_op cs s) ∙ next_viewed view_op (cell_at cs s))) in
     record {
       made = record {
         slots = h.slots;

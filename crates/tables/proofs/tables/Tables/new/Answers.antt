@@ -9,11 +9,11 @@ use Rattle.tables.proofs.tables.Tables.new.Goals as goal
 
 pub returns : goal.returns
 returns c =
-    let o = c.in-ok-operation-table.ensures in
-    let b = c.in-ok-block-table.ensures in
-    let r = c.in-ok-region-table.ensures in
-    let l = c.in-ok-op-lists.ensures in
-    let k = c.in-ok-block-lists.ensures in (
+    let o = c.in_ok-operation_table.ensures in
+    let b = c.in_ok-block_table.ensures in
+    let r = c.in_ok-region_table.ensures in
+    let l = c.in_ok-op_lists.ensures in
+    let k = c.in_ok-block_lists.ensures in (
       λ i. record {
         ops = (ap (map (viewed view_op)) o ∙ viewed_unused view_op c.args.ops) i;
         blocks = (ap (map (viewed view_block)) b ∙ viewed_unused view_block c.args.blocks) i;

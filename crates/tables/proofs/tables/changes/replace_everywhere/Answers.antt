@@ -14,8 +14,8 @@ loop-slot-preserved c =
     let G = viewed (reused c.args.old c.args.new) in
     let lt : i < length xs = omega (arith, length-map (cells c.args.operations.now) (viewed view_op)) in
     let lty : i < length ys = omega (arith, length-map (cells c.loop-slot.operations) (viewed view_op), c.loop-slot.invariant.1) in (
-      c.replace-in.ensures.after ∙ map_over_more G xs ys i (cell_at ys i) lt c.loop-slot.invariant.0 (get_or_default ys i _ _ lty),
-      c.replace-in.ensures.len ∙ c.loop-slot.invariant.1,
+      c.replace_in.ensures.after ∙ map_over_more G xs ys i (cell_at ys i) lt c.loop-slot.invariant.0 (get_or_default ys i _ _ lty),
+      c.replace_in.ensures.len ∙ c.loop-slot.invariant.1,
     )
 
 pub returns : goal.returns

@@ -5,7 +5,7 @@ use Rattle.row.specs.Items.{row_items}
 use Rattle.model.specs.Calls.{replaced}
 use Rattle.tables.proofs.ReadLaws.{nth_at, nth_none}
 use Rattle.tables.proofs.tables.changes.replace_uses.Goals as goal
-use Rattle.tables.proofs.tables.changes.replace_uses.Goals.{in-Some, in-default}
+use Rattle.tables.proofs.tables.changes.replace_uses.Goals.{in-Some, in_default}
 
 pub loop-i-preserved : goal.loop-i-preserved
 loop-i-preserved c =
@@ -19,7 +19,7 @@ loop-i-preserved c =
             e ∙ map_over_more (replaced c.args.old c.args.new) xs ys i _ lt c.loop-i.invariant.0 (nth_at ys i _ (sym w.in-Some.ensures)),
             ap length e ∙ length-set ys i _ ∙ c.loop-i.invariant.1,
           )
-      | in-default w ↦ absurd (nth_none ys i (sym w.in-default.ensures) (omega (arith, c.loop-i.invariant.1)))
+      | in_default w ↦ absurd (nth_none ys i (sym w.in_default.ensures) (omega (arith, c.loop-i.invariant.1)))
     ]
 
 pub returns : goal.returns

@@ -10,12 +10,12 @@ use Rattle.tables.proofs.tables.changes.set_result_type.Goals as goal
 pub returns-then-slot-len : goal.returns-then-slot-len
 returns-then-slot-len c = changed_past view_op (retyped c.args.index c.args.to) c.args.operations.now c.args.slot (omega arith)
 
-pub index-mut-requires : goal.index-mut-requires
-index-mut-requires c = omega (arith, length-map (vec_items c.args.operations.now.slots) cell_of)
+pub index_mut-requires : goal.index_mut-requires
+index_mut-requires c = omega (arith, length-map (vec_items c.args.operations.now.slots) cell_of)
 
 pub returns : goal.returns
 returns c =
-    let x = c.index-mut.result.now in
+    let x = c.index_mut.result.now in
     let o = x.content in
-    changed_lent view_op (retyped c.args.index c.args.to) c.args.operations.now c.args.slot _ x _ (omega arith) c.index-mut.ensures.value refl
+    changed_lent view_op (retyped c.args.index c.args.to) c.args.operations.now c.args.slot _ x _ (omega arith) c.index_mut.ensures.value refl
     (ap (λ rs. record { kind = o.kind; note = o.note; operands = row_items o.operands; results = rs; regions = row_items o.regions }) c.set.ensures.items)
