@@ -10,12 +10,12 @@ use Rattle.erasing.proofs.erase.disown.Goals as goal
 pub returns-then-owner-len : goal.returns-then-owner-len
 returns-then-owner-len c = changed_past view_op (disowned (λ k. eqb k c.args.slot)) c.args.operations.now c.args.owner (omega arith)
 
-pub index-mut-requires : goal.index-mut-requires
-index-mut-requires c = omega (arith, length-map (vec_items c.args.operations.now.slots) cell_of)
+pub index_mut-requires : goal.index_mut-requires
+index_mut-requires c = omega (arith, length-map (vec_items c.args.operations.now.slots) cell_of)
 
 pub returns : goal.returns
 returns c =
-    let x = c.index-mut.result.now in
+    let x = c.index_mut.result.now in
     let o = x.content in
-    changed_lent view_op (disowned (λ k. eqb k c.args.slot)) c.args.operations.now c.args.owner _ x _ (omega arith) c.index-mut.ensures.value refl
+    changed_lent view_op (disowned (λ k. eqb k c.args.slot)) c.args.operations.now c.args.owner _ x _ (omega arith) c.index_mut.ensures.value refl
     (ap (λ rs. record { kind = o.kind; note = o.note; operands = row_items o.operands; results = row_items o.results; regions = rs }) c.others-operation.ensures)

@@ -5,5 +5,5 @@ use Rattle.erasing.proofs.erase.erase_block.Goals as goal
 
 pub returns : goal.returns
 returns c =
-    let h = block_released c.take-block.new.tables c.args.slot c.release.new.self c.release.ensures in
-    record { after = h.0 ∙ ap (λ m. drop_block m c.args.slot) c.take-block.ensures.after; sizes = h.1 ∙ c.take-block.ensures.sizes }
+    let h = block_released c.take_block.new.tables c.args.slot c.release.new.self c.release.ensures in
+    record { after = h.0 ∙ ap (λ m. drop_block m c.args.slot) c.take_block.ensures.after; sizes = h.1 ∙ c.take_block.ensures.sizes }

@@ -14,8 +14,8 @@ loop-node-preserved c =
     let ns = c.args.nodes.now in
     let i = c.loop-node.node-index in
     let d = node.Operation (record { slot = 0; generation = 0 }) in (
-      c.erase-node.ensures.after ∙ ap (λ z. erase_node z (get_or ns i d)) c.loop-node.invariant.0 ∙ sym (erase_more m ns i d c.requires c.loop-node-test.true),
-      c.erase-node.ensures.sizes ∙ c.loop-node.invariant.1,
+      c.erase_node.ensures.after ∙ ap (λ z. erase_node z (get_or ns i d)) c.loop-node.invariant.0 ∙ sym (erase_more m ns i d c.requires c.loop-node-test.true),
+      c.erase_node.ensures.sizes ∙ c.loop-node.invariant.1,
     )
 
 pub returns : goal.returns

@@ -5,16 +5,16 @@ use Rattle.model.specs.Erasing.{defines, some_defined}
 use Rattle.erasing.proofs.Usings.{defined_step}
 use Rattle.erasing.proofs.uses.some_defined_after.Goals as goal
 
-pub returns-then-has-definer : goal.returns-then-has-definer
-returns-then-has-definer c =
+pub returns-then-has_definer : goal.returns-then-has_definer
+returns-then-has_definer c =
     let ns = c.args.nodes.now in
-    defined_step (chained c.args.olds.now c.args.news.now) ns c.args.values.now c.loop-value.value-index _ true c.loop-value-test.true (c.if-has-definer.ensures ∙ ap (λ v. defines ns v.definer) c.exchange-each.ensures)
+    defined_step (chained c.args.olds.now c.args.news.now) ns c.args.values.now c.loop-value.value-index _ true c.loop-value-test.true (c.if-has_definer.ensures ∙ ap (λ v. defines ns v.definer) c.exchange_each.ensures)
     ∙ c.loop-value.invariant
 
 pub loop-value-preserved : goal.loop-value-preserved
 loop-value-preserved c =
     let ns = c.args.nodes.now in
-    defined_step (chained c.args.olds.now c.args.news.now) ns c.args.values.now c.loop-value.value-index _ false c.loop-value-test.true (c.if-has-definer.ensures ∙ ap (λ v. defines ns v.definer) c.exchange-each.ensures)
+    defined_step (chained c.args.olds.now c.args.news.now) ns c.args.values.now c.loop-value.value-index _ false c.loop-value-test.true (c.if-has_definer.ensures ∙ ap (λ v. defines ns v.definer) c.exchange_each.ensures)
     ∙ c.loop-value.invariant
 
 pub returns : goal.returns

@@ -8,19 +8,19 @@ use Rattle.tables.specs.View.{view, view_op}
 use Rattle.erasing.proofs.Usings.{used_step}
 use Rattle.erasing.proofs.uses.used_after.Goals as goal
 
-pub returns-then-uses-from-outside : goal.returns-then-uses-from-outside
-returns-then-uses-from-outside c =
+pub returns-then-uses_from_outside : goal.returns-then-uses_from_outside
+returns-then-uses_from_outside c =
     let m = view c.args.tables.now in
     let cs = (replace_each m c.args.olds.now c.args.news.now).ops in
     let within : c.loop-slot.slot < length cs = omega (arith, each_length m c.args.olds.now c.args.news.now, length-map (cells c.args.tables.now.operations) (viewed view_op), c.loop-slot-test.true) in
-    used_step c.args.nodes.now cs c.loop-slot.slot true within c.if-uses-from-outside.ensures ∙ c.loop-slot.invariant
+    used_step c.args.nodes.now cs c.loop-slot.slot true within c.if-uses_from_outside.ensures ∙ c.loop-slot.invariant
 
 pub loop-slot-preserved : goal.loop-slot-preserved
 loop-slot-preserved c =
     let m = view c.args.tables.now in
     let cs = (replace_each m c.args.olds.now c.args.news.now).ops in
     let within : c.loop-slot.slot < length cs = omega (arith, each_length m c.args.olds.now c.args.news.now, length-map (cells c.args.tables.now.operations) (viewed view_op), c.loop-slot-test.true) in
-    used_step c.args.nodes.now cs c.loop-slot.slot false within c.if-uses-from-outside.ensures ∙ c.loop-slot.invariant
+    used_step c.args.nodes.now cs c.loop-slot.slot false within c.if-uses_from_outside.ensures ∙ c.loop-slot.invariant
 
 pub returns : goal.returns
 returns c =

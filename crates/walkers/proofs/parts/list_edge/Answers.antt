@@ -22,15 +22,15 @@ push-requires c =
 pub loop-cursor-smaller : goal.loop-cursor-smaller
 loop-cursor-smaller c =
     let m = view c.args.tables.now in
-    linked_less m.blocks_of m.place_of c.requires.sound.blocks c.args.region c.in-Some.block c.loop-cursor.cursor c.next-block-of-cursor.result c.in-Some.is c.loop-cursor.invariant.0 c.next-block-of-cursor.ensures
+    linked_less m.blocks_of m.place_of c.requires.sound.blocks c.args.region c.in-Some.block c.loop-cursor.cursor c.next_block_of-cursor.result c.in-Some.is c.loop-cursor.invariant.0 c.next_block_of-cursor.ensures
 
 pub loop-cursor-preserved : goal.loop-cursor-preserved
 loop-cursor-preserved c =
     let m = view c.args.tables.now in
     let out : nodes_in c.push.new.self ≡ nodes_in c.loop-cursor.nodes ++ (node.BasicBlock (block_id m c.in-Some.block) ∷ []) =
-    c.push.ensures ∙ ap (λ (i : BlockId). nodes_in c.loop-cursor.nodes ++ (node.BasicBlock i ∷ [])) c.block-id.ensures in (
-      at_next m.blocks_of m.place_of c.requires.sound.blocks c.args.region c.in-Some.block c.loop-cursor.cursor c.next-block-of-cursor.result c.in-Some.is c.loop-cursor.invariant.0 c.next-block-of-cursor.ensures,
-      linked_turn m.blocks_of m.place_of c.requires.sound.blocks c.args.region c.in-Some.block c.loop-cursor.cursor c.next-block-of-cursor.result c.in-Some.is c.loop-cursor.invariant.0 c.next-block-of-cursor.ensures (block_node m) (nodes_in c.loop-cursor.nodes) (nodes_in c.args.nodes.now) c.loop-cursor.invariant.1 (nodes_in c.push.new.self) out,
+    c.push.ensures ∙ ap (λ (i : BlockId). nodes_in c.loop-cursor.nodes ++ (node.BasicBlock i ∷ [])) c.block_id.ensures in (
+      at_next m.blocks_of m.place_of c.requires.sound.blocks c.args.region c.in-Some.block c.loop-cursor.cursor c.next_block_of-cursor.result c.in-Some.is c.loop-cursor.invariant.0 c.next_block_of-cursor.ensures,
+      linked_turn m.blocks_of m.place_of c.requires.sound.blocks c.args.region c.in-Some.block c.loop-cursor.cursor c.next_block_of-cursor.result c.in-Some.is c.loop-cursor.invariant.0 c.next_block_of-cursor.ensures (block_node m) (nodes_in c.loop-cursor.nodes) (nodes_in c.args.nodes.now) c.loop-cursor.invariant.1 (nodes_in c.push.new.self) out,
     )
 
 pub push-requires-2 : goal.push-requires-2
@@ -38,7 +38,7 @@ push-requires-2 c =
     let m = view c.args.tables.now in
     let whole = flat_map (block_node m) (m.blocks_of c.args.region) in
     let all : length (nodes_in c.args.nodes.now) + length (whole ++ node.Region (region_id m c.args.region) ∷ []) ≤ 768 = omega (arith, c.requires.room, ap length (edge_is m c.args.region)) in
-    let end = linked_end (block_node m) (nodes_in c.loop-cursor.nodes) (nodes_in c.args.nodes.now) (m.blocks_of c.args.region) c.loop-cursor.cursor c.in-default.is c.loop-cursor.invariant.1 in
+    let end = linked_end (block_node m) (nodes_in c.loop-cursor.nodes) (nodes_in c.args.nodes.now) (m.blocks_of c.args.region) c.loop-cursor.cursor c.in_default.is c.loop-cursor.invariant.1 in
     let room = second_room (nodes_in c.args.nodes.now) whole (node.Region (region_id m c.args.region) ∷ []) (nodes_in c.loop-cursor.nodes) 768 end all in
     omega (arith, room)
 
@@ -46,8 +46,8 @@ pub returns : goal.returns
 returns c =
     let m = view c.args.tables.now in
     let r = c.args.region in
-    let end = linked_end (block_node m) (nodes_in c.loop-cursor.nodes) (nodes_in c.args.nodes.now) (m.blocks_of r) c.loop-cursor.cursor c.in-default.is c.loop-cursor.invariant.1 in
+    let end = linked_end (block_node m) (nodes_in c.loop-cursor.nodes) (nodes_in c.args.nodes.now) (m.blocks_of r) c.loop-cursor.cursor c.in_default.is c.loop-cursor.invariant.1 in
     let last : nodes_in c.push-2.new.self ≡ nodes_in c.loop-cursor.nodes ++ (node.Region (region_id m r) ∷ []) =
-    c.push-2.ensures ∙ ap (λ (i : RegionId). nodes_in c.loop-cursor.nodes ++ (node.Region i ∷ [])) c.region-id.ensures in
+    c.push-2.ensures ∙ ap (λ (i : RegionId). nodes_in c.loop-cursor.nodes ++ (node.Region i ∷ [])) c.region_id.ensures in
     behind (node.Region (region_id m r)) (nodes_in c.args.nodes.now) (flat_map (block_node m) (m.blocks_of r)) (nodes_in c.loop-cursor.nodes) (nodes_in c.push-2.new.self) end last
     ∙ ap (λ ns. nodes_in c.args.nodes.now ++ ns) (sym (edge_is m r))

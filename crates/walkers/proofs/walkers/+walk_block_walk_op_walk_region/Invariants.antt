@@ -8,30 +8,30 @@ use Rattle.walkers.proofs.Regions.{inside}
 use Rattle.walkers.proofs.Turns.{At}
 use Rattle.walkers.proofs.walkers.+walk_block_walk_op_walk_region.Given as goal
 
-abbrev pub decreases-walk-block : goal.decreases-walk-block
+abbrev pub decreases-walk-block : goal.decreases-walk_block
 decreases-walk-block l = 2 * length (block_by (view l.tables.now) (walk (view l.tables.now)) l.block)
 
-abbrev pub decreases-walk-op : goal.decreases-walk-op
+abbrev pub decreases-walk-op : goal.decreases-walk_op
 decreases-walk-op l = 2 * length (walk (view l.tables.now) l.op)
 
-abbrev pub decreases-walk-region : goal.decreases-walk-region
+abbrev pub decreases-walk-region : goal.decreases-walk_region
 decreases-walk-region l = 2 * length (region_by (view l.tables.now) (walk (view l.tables.now)) l.region) + 1
 
-abbrev pub invariant-walk-block-loop-cursor : goal.invariant-walk-block-loop-cursor
+abbrev pub invariant-walk-block-loop-cursor : goal.invariant-walk_block-loop-cursor
 invariant-walk-block-loop-cursor l =
     At (view l.tables).ops_of l.block l.cursor
     × (nodes_in l.nodes ++ flat_map (walk (view l.tables)) (rest_from l.cursor ((view l.tables).ops_of l.block)) ≡ nodes_in l.initial.nodes ++ flat_map (walk (view l.tables)) ((view l.tables).ops_of l.block))
 
-abbrev pub decreases-walk-block-loop-cursor : goal.decreases-walk-block-loop-cursor
+abbrev pub decreases-walk-block-loop-cursor : goal.decreases-walk_block-loop-cursor
 decreases-walk-block-loop-cursor l = length (rest_from l.cursor ((view l.tables).ops_of l.block))
 
-abbrev pub invariant-walk-op-loop-region : goal.invariant-walk-op-loop-region
+abbrev pub invariant-walk-op-loop-region : goal.invariant-walk_op-loop-region
 invariant-walk-op-loop-region l = nodes_in l.nodes ++ flat_map (inside l.tables) (drop l.region-index l.region-items) ≡ nodes_in l.initial.nodes ++ flat_map (inside l.tables) l.region-items
 
-abbrev pub invariant-walk-region-loop-cursor : goal.invariant-walk-region-loop-cursor
+abbrev pub invariant-walk-region-loop-cursor : goal.invariant-walk_region-loop-cursor
 invariant-walk-region-loop-cursor l =
     At (view l.tables).blocks_of l.region l.cursor
     × (nodes_in l.nodes ++ flat_map (block_by (view l.tables) (walk (view l.tables))) (rest_from l.cursor ((view l.tables).blocks_of l.region)) ≡ nodes_in l.initial.nodes ++ region_by (view l.tables) (walk (view l.tables)) l.region)
 
-abbrev pub decreases-walk-region-loop-cursor : goal.decreases-walk-region-loop-cursor
+abbrev pub decreases-walk-region-loop-cursor : goal.decreases-walk_region-loop-cursor
 decreases-walk-region-loop-cursor l = length (rest_from l.cursor ((view l.tables).blocks_of l.region))
