@@ -12,7 +12,7 @@ use model::ids::IRNode;
 use tables::tables::Tables;
 
 /// Lists what lies in the operation in the slot `op`, then the operation.
-#[cycle(list_body_list_op_list_region_list_regions)]
+#[cycle(listing)]
 pub fn list_op(tables: &Tables, op: usize, nodes: &mut Nodes)
     requires sound { Sound (view tables.now) }
     requires room { Room nodes.old (op_nodes (view tables.now) op) }
@@ -23,7 +23,7 @@ pub fn list_op(tables: &Tables, op: usize, nodes: &mut Nodes)
 }
 
 /// Lists the regions of the operation in the slot `op`, the last first.
-#[cycle(list_body_list_op_list_region_list_regions)]
+#[cycle(listing)]
 fn list_regions(tables: &Tables, op: usize, nodes: &mut Nodes)
     requires sound { Sound (view tables.now) }
     requires room { Room nodes.old (flat_map (region_nodes (view tables.now) (op_nodes (view tables.now))) (reverse (slots_of_regions (view tables.now) op))) }
@@ -41,7 +41,7 @@ fn list_regions(tables: &Tables, op: usize, nodes: &mut Nodes)
 }
 
 /// Lists what lies in the blocks of the region in the slot `region`, then the blocks, then the region.
-#[cycle(list_body_list_op_list_region_list_regions)]
+#[cycle(listing)]
 pub fn list_region(tables: &Tables, region: usize, nodes: &mut Nodes)
     requires sound { Sound (view tables.now) }
     requires room { Room nodes.old (region_nodes (view tables.now) (op_nodes (view tables.now)) region) }
@@ -56,7 +56,7 @@ pub fn list_region(tables: &Tables, region: usize, nodes: &mut Nodes)
 }
 
 /// Lists what lies in the block in the slot `block`, the last operation first.
-#[cycle(list_body_list_op_list_region_list_regions)]
+#[cycle(listing)]
 fn list_body(tables: &Tables, block: usize, nodes: &mut Nodes)
     requires sound { Sound (view tables.now) }
     requires room { Room nodes.old (body_nodes (view tables.now) (op_nodes (view tables.now)) block) }

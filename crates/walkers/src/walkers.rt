@@ -10,7 +10,7 @@ use model::ids::IRNode;
 use tables::tables::Tables;
 
 /// Meets the operation in the slot `op`, and all that lies in it.
-#[cycle(walk_block_walk_op_walk_region)]
+#[cycle(walking)]
 pub fn walk_op(tables: &Tables, op: usize, nodes: &mut Nodes)
     requires sound { Sound (view tables.now) }
     requires room { Room nodes.old (walk (view tables.now) op) }
@@ -26,7 +26,7 @@ pub fn walk_op(tables: &Tables, op: usize, nodes: &mut Nodes)
 }
 
 /// Meets what lies in the region in the slot `region`, block by block.
-#[cycle(walk_block_walk_op_walk_region)]
+#[cycle(walking)]
 pub fn walk_region(tables: &Tables, region: usize, nodes: &mut Nodes)
     requires sound { Sound (view tables.now) }
     requires room { Room nodes.old (region_by (view tables.now) (walk (view tables.now)) region) }
@@ -40,7 +40,7 @@ pub fn walk_region(tables: &Tables, region: usize, nodes: &mut Nodes)
 }
 
 /// Meets the block in the slot `block`, and all that lies in it.
-#[cycle(walk_block_walk_op_walk_region)]
+#[cycle(walking)]
 pub fn walk_block(tables: &Tables, block: usize, nodes: &mut Nodes)
     requires sound { Sound (view tables.now) }
     requires room { Room nodes.old (block_by (view tables.now) (walk (view tables.now)) block) }

@@ -1,0 +1,171 @@
+use Rattle.std.proofs.Common.{◌≡◌, suc, ◌+◌, ◌-◌, ◌*◌, ◌<◌, ◌≤◌, [], ◌∷◌, ◌++◌, reverse, length, get_or, take, sym, refl, ap, ◌∙◌, arith, length-append}
+use Rattle.std.proofs.lemmas.List.{append-nil, take_all}
+use Rattle.std.specs.List.{flat_map}
+use Rattle.model.specs.declared.ids.OpId.{OpId}
+use Rattle.model.specs.declared.ids.RegionId.{RegionId}
+use Rattle.model.specs.declared.ids.IRNode.TheVariants as node
+use Rattle.model.specs.Model.{op_id, prev_slot, prev_block_slot}
+use Rattle.model.specs.Walk.{slots_of_regions}
+use Rattle.model.specs.Erasing.{body_nodes, edge_nodes, region_nodes, op_nodes}
+use Rattle.model.proofs.Parts.{nodes_unfold}
+use Rattle.model.proofs.Backward.{agree_reverse, last_first, prev_next}
+use Rattle.tables.specs.View.{view}
+use Rattle.walkers.specs.Listed.{nodes_in, Room}
+use Rattle.walkers.proofs.Backs.{region_in, behind, both, first_room, second_room, back_few, back_room, back_turn, back_start, back_end, edge_is, listed_some, listed_none}
+use Rattle.walkers.proofs.Turns.{at_first, at_next, linked_start, linked_end, linked_few, linked_less, linked_room, linked_turn}
+use Rattle.walkers.proofs.parts.+listing.Goals as goal
+
+pub list_body-loop-cursor-init : goal.list_body-loop-cursor-init
+list_body-loop-cursor-init t c =
+    let m = view c.args.tables.now in
+    let first = c.last_op-cursor.ensures ∙ last_first (m.ops_of c.args.block) in (
+      at_first (λ b. reverse (m.ops_of b)) c.args.block c.last_op-cursor.result first,
+      linked_start (op_nodes m) (nodes_in c.args.nodes.now) (reverse (m.ops_of c.args.block)) c.last_op-cursor.result first,
+    )
+
+pub list_body-list_op-requires : goal.list_body-list_op-requires
+list_body-list_op-requires t c =
+    let m = view c.args.tables.now in
+    let part = linked_few (op_nodes m) c.in-Some.op (reverse (m.ops_of c.args.block)) (c.loop-cursor.invariant.0 c.in-Some.op c.in-Some.is) in
+    let less : 2 * length (op_nodes (view c.args.tables.now) c.in-Some.op) < t = omega (arith, c.decreases, part) in
+    let room : Room c.loop-cursor.nodes (op_nodes (view c.args.tables.now) c.in-Some.op) =
+    linked_room (λ b. reverse (m.ops_of b)) m.home_of (agree_reverse m.ops_of m.home_of c.requires.sound.ops) c.args.block c.in-Some.op c.loop-cursor.cursor (prev_slot m c.in-Some.op) c.in-Some.is c.loop-cursor.invariant.0 (prev_next m.ops_of m.home_of c.requires.sound.ops c.in-Some.op) (op_nodes m) (nodes_in c.loop-cursor.nodes) (nodes_in c.args.nodes.now) c.loop-cursor.invariant.1 768 c.requires.room in
+    (less, (c.requires.sound, room))
+
+pub list_body-loop-cursor-smaller : goal.list_body-loop-cursor-smaller
+list_body-loop-cursor-smaller t c =
+    let m = view c.args.tables.now in
+    linked_less (λ b. reverse (m.ops_of b)) m.home_of (agree_reverse m.ops_of m.home_of c.requires.sound.ops) c.args.block c.in-Some.op c.loop-cursor.cursor c.prev_of-cursor.result c.in-Some.is c.loop-cursor.invariant.0 (c.prev_of-cursor.ensures ∙ prev_next m.ops_of m.home_of c.requires.sound.ops c.in-Some.op)
+
+pub list_body-loop-cursor-preserved : goal.list_body-loop-cursor-preserved
+list_body-loop-cursor-preserved t c =
+    let m = view c.args.tables.now in
+    let agree = agree_reverse m.ops_of m.home_of c.requires.sound.ops in
+    let next = c.prev_of-cursor.ensures ∙ prev_next m.ops_of m.home_of c.requires.sound.ops c.in-Some.op in (
+      at_next (λ b. reverse (m.ops_of b)) m.home_of agree c.args.block c.in-Some.op c.loop-cursor.cursor c.prev_of-cursor.result c.in-Some.is c.loop-cursor.invariant.0 next,
+      linked_turn (λ b. reverse (m.ops_of b)) m.home_of agree c.args.block c.in-Some.op c.loop-cursor.cursor c.prev_of-cursor.result c.in-Some.is c.loop-cursor.invariant.0 next (op_nodes m) (nodes_in c.loop-cursor.nodes) (nodes_in c.args.nodes.now) c.loop-cursor.invariant.1 (nodes_in c.list_op.new.nodes) c.list_op.ensures,
+    )
+
+pub list_op-list_regions-requires : goal.list_op-list_regions-requires
+list_op-list_regions-requires t c =
+    let m = view c.args.tables.now in
+    let inner = flat_map (region_nodes m (op_nodes m)) (reverse (slots_of_regions m c.args.op)) in
+    let whole = ap length (nodes_unfold m c.requires.sound c.args.op) ∙ length-append inner (node.Operation (op_id m c.args.op) ∷ []) in
+    let less : 2 * length (flat_map (region_nodes (view c.args.tables.now) (op_nodes (view c.args.tables.now))) (reverse (slots_of_regions (view c.args.tables.now) c.args.op))) + 1 < t = omega (arith, c.decreases, whole) in
+    let room : Room c.args.nodes.now (flat_map (region_nodes (view c.args.tables.now) (op_nodes (view c.args.tables.now))) (reverse (slots_of_regions (view c.args.tables.now) c.args.op))) = omega (arith, c.requires.room, whole) in
+    (less, (c.requires.sound, room))
+
+pub list_op-push-requires : goal.list_op-push-requires
+list_op-push-requires t c =
+    let m = view c.args.tables.now in
+    let inner = flat_map (region_nodes m (op_nodes m)) (reverse (slots_of_regions m c.args.op)) in
+    let whole = ap length (nodes_unfold m c.requires.sound c.args.op) ∙ length-append inner (node.Operation (op_id m c.args.op) ∷ []) in
+    let middle = ap length c.list_regions.ensures ∙ length-append (nodes_in c.args.nodes.now) inner in
+    omega (arith, c.requires.room, whole, middle)
+
+pub list_op-returns : goal.list_op-returns
+list_op-returns t c =
+    let m = view c.args.tables.now in
+    let start = nodes_in c.args.nodes.now in
+    let last : nodes_in c.push.new.self ≡ nodes_in c.list_regions.new.nodes ++ (node.Operation (op_id m c.args.op) ∷ []) =
+    c.push.ensures ∙ ap (λ (i : OpId). nodes_in c.list_regions.new.nodes ++ (node.Operation i ∷ [])) c.op_id.ensures in
+    behind (node.Operation (op_id m c.args.op)) start (flat_map (region_nodes m (op_nodes m)) (reverse (slots_of_regions m c.args.op))) (nodes_in c.list_regions.new.nodes) (nodes_in c.push.new.self) c.list_regions.ensures last
+    ∙ ap (λ ns. start ++ ns) (sym (nodes_unfold m c.requires.sound c.args.op))
+
+pub list_region-loop-cursor-init : goal.list_region-loop-cursor-init
+list_region-loop-cursor-init t c =
+    let m = view c.args.tables.now in
+    let first = c.last_block-cursor.ensures ∙ last_first (m.blocks_of c.args.region) in (
+      at_first (λ r. reverse (m.blocks_of r)) c.args.region c.last_block-cursor.result first,
+      linked_start (body_nodes m (op_nodes m)) (nodes_in c.args.nodes.now) (reverse (m.blocks_of c.args.region)) c.last_block-cursor.result first,
+    )
+
+pub list_region-list_body-requires : goal.list_region-list_body-requires
+list_region-list_body-requires t c =
+    let m = view c.args.tables.now in
+    let f = body_nodes m (op_nodes m) in
+    let r = c.args.region in
+    let inner = flat_map f (reverse (m.blocks_of r)) in
+    let whole = length-append inner (edge_nodes m r) in
+    let edge = ap length (edge_is m r) ∙ length-append _ (node.Region _ ∷ []) in
+    let part = linked_few f c.in-Some.block (reverse (m.blocks_of r)) (c.loop-cursor.invariant.0 c.in-Some.block c.in-Some.is) in
+    let less : 2 * length (body_nodes (view c.args.tables.now) (op_nodes (view c.args.tables.now)) c.in-Some.block) + 1 < t = omega (arith, c.decreases, part, whole, edge) in
+    let fits = first_room (nodes_in c.args.nodes.now) inner (edge_nodes m r) 768 c.requires.room in
+    let room : Room c.loop-cursor.nodes (body_nodes (view c.args.tables.now) (op_nodes (view c.args.tables.now)) c.in-Some.block) =
+    linked_room (λ k. reverse (m.blocks_of k)) m.place_of (agree_reverse m.blocks_of m.place_of c.requires.sound.blocks) r c.in-Some.block c.loop-cursor.cursor (prev_block_slot m c.in-Some.block) c.in-Some.is c.loop-cursor.invariant.0 (prev_next m.blocks_of m.place_of c.requires.sound.blocks c.in-Some.block) f (nodes_in c.loop-cursor.nodes) (nodes_in c.args.nodes.now) c.loop-cursor.invariant.1 768 fits in
+    (less, (c.requires.sound, room))
+
+pub list_region-loop-cursor-smaller : goal.list_region-loop-cursor-smaller
+list_region-loop-cursor-smaller t c =
+    let m = view c.args.tables.now in
+    linked_less (λ k. reverse (m.blocks_of k)) m.place_of (agree_reverse m.blocks_of m.place_of c.requires.sound.blocks) c.args.region c.in-Some.block c.loop-cursor.cursor c.prev_block_of-cursor.result c.in-Some.is c.loop-cursor.invariant.0 (c.prev_block_of-cursor.ensures ∙ prev_next m.blocks_of m.place_of c.requires.sound.blocks c.in-Some.block)
+
+pub list_region-loop-cursor-preserved : goal.list_region-loop-cursor-preserved
+list_region-loop-cursor-preserved t c =
+    let m = view c.args.tables.now in
+    let agree = agree_reverse m.blocks_of m.place_of c.requires.sound.blocks in
+    let next = c.prev_block_of-cursor.ensures ∙ prev_next m.blocks_of m.place_of c.requires.sound.blocks c.in-Some.block in (
+      at_next (λ k. reverse (m.blocks_of k)) m.place_of agree c.args.region c.in-Some.block c.loop-cursor.cursor c.prev_block_of-cursor.result c.in-Some.is c.loop-cursor.invariant.0 next,
+      linked_turn (λ k. reverse (m.blocks_of k)) m.place_of agree c.args.region c.in-Some.block c.loop-cursor.cursor c.prev_block_of-cursor.result c.in-Some.is c.loop-cursor.invariant.0 next (body_nodes m (op_nodes m)) (nodes_in c.loop-cursor.nodes) (nodes_in c.args.nodes.now) c.loop-cursor.invariant.1 (nodes_in c.list_body.new.nodes) c.list_body.ensures,
+    )
+
+pub list_region-list_edge-requires : goal.list_region-list_edge-requires
+list_region-list_edge-requires t c =
+    let m = view c.args.tables.now in
+    let f = body_nodes m (op_nodes m) in
+    let r = c.args.region in
+    let end = linked_end f (nodes_in c.loop-cursor.nodes) (nodes_in c.args.nodes.now) (reverse (m.blocks_of r)) c.loop-cursor.cursor c.in_default.is c.loop-cursor.invariant.1 in
+    record {
+      sound = c.requires.sound;
+      room = second_room (nodes_in c.args.nodes.now) (flat_map f (reverse (m.blocks_of r))) (edge_nodes m r) (nodes_in c.loop-cursor.nodes) 768 end c.requires.room;
+    }
+
+pub list_region-returns : goal.list_region-returns
+list_region-returns t c =
+    let m = view c.args.tables.now in
+    let f = body_nodes m (op_nodes m) in
+    let r = c.args.region in
+    let end = linked_end f (nodes_in c.loop-cursor.nodes) (nodes_in c.args.nodes.now) (reverse (m.blocks_of r)) c.loop-cursor.cursor c.in_default.is c.loop-cursor.invariant.1 in
+    both (nodes_in c.args.nodes.now) (flat_map f (reverse (m.blocks_of r))) (edge_nodes m r) (nodes_in c.loop-cursor.nodes) (nodes_in c.list_edge.new.nodes) end c.list_edge.ensures
+
+pub list_regions-returns-in_default : goal.list_regions-returns-in_default
+list_regions-returns-in_default t c =
+    sym (append-nil (nodes_in c.args.nodes.now)) ∙ ap (λ ns. nodes_in c.args.nodes.now ++ ns) (sym (listed_none c.args.tables.now c.args.op c.in_default.ensures))
+
+pub list_regions-loop-left-init : goal.list_regions-loop-left-init
+list_regions-loop-left-init t c =
+    let f = region_in c.args.tables.now in
+    let rs = c.as_slice-regions.result.now in
+    let all = back_start f rs in
+    (omega arith, omega (arith, ap length all), ap (λ ns. nodes_in c.args.nodes.now ++ ns) all)
+
+pub list_regions-list_region-requires : goal.list_regions-list_region-requires
+list_regions-list_region-requires t c =
+    let f = region_in c.args.tables.now in
+    let rs = c.as_slice-regions.result.now in
+    let j = c.loop-left.left in
+    let whole = listed_some c.args.tables.now c.args.op c.in-Some.operation.now rs c.in-Some.ensures c.as_slice-regions.ensures in
+    let part = back_few f rs (record { slot = 0; generation = 0 }) j c.loop-left-test.true c.loop-left.invariant.0 in
+    let less : 2 * length (region_in c.args.tables.now (get_or c.as_slice-regions.result.now (c.loop-left.left - 1) (record { slot = 0; generation = 0 }))) < t = omega (arith, c.decreases, part, c.loop-left.invariant.1, ap length whole) in
+    let fits : length (nodes_in c.args.nodes.now) + length (flat_map f (reverse rs)) ≤ 768 = omega (arith, c.requires.room, ap length whole) in
+    let room : Room c.loop-left.nodes (region_in c.args.tables.now (get_or c.as_slice-regions.result.now (c.loop-left.left - 1) (record { slot = 0; generation = 0 }))) =
+    back_room f rs (record { slot = 0; generation = 0 }) j c.loop-left-test.true c.loop-left.invariant.0 (nodes_in c.loop-left.nodes) (nodes_in c.args.nodes.now) (flat_map f (reverse rs)) c.loop-left.invariant.2 768 fits in
+    (less, (c.requires.sound, room))
+
+pub list_regions-loop-left-preserved : goal.list_regions-loop-left-preserved
+list_regions-loop-left-preserved t c =
+    let f = region_in c.args.tables.now in
+    let rs = c.as_slice-regions.result.now in
+    let j = c.loop-left.left in
+    let part = back_few f rs (record { slot = 0; generation = 0 }) j c.loop-left-test.true c.loop-left.invariant.0 in (
+      omega (arith, c.loop-left.invariant.0),
+      omega (arith, part, c.loop-left.invariant.1),
+      back_turn f rs (record { slot = 0; generation = 0 }) j c.loop-left-test.true c.loop-left.invariant.0 (nodes_in c.loop-left.nodes) (nodes_in c.args.nodes.now) (flat_map f (reverse rs)) c.loop-left.invariant.2 (nodes_in c.list_region.new.nodes) c.list_region.ensures,
+    )
+
+pub list_regions-returns : goal.list_regions-returns
+list_regions-returns t c =
+    let f = region_in c.args.tables.now in
+    let rs = c.as_slice-regions.result.now in
+    back_end f rs c.loop-left.left (nodes_in c.loop-left.nodes) (nodes_in c.args.nodes.now ++ flat_map f (reverse rs)) (omega (arith, c.loop-left-test.false)) c.loop-left.invariant.2
+    ∙ ap (λ ns. nodes_in c.args.nodes.now ++ ns) (sym (listed_some c.args.tables.now c.args.op c.in-Some.operation.now rs c.in-Some.ensures c.as_slice-regions.ensures))

@@ -1,0 +1,47 @@
+use Rattle.std.proofs.Common.{◌≡◌, ℕ, ◌+◌, ◌*◌, ◌≤◌, List, ◌++◌, reverse, length, take}
+use Rattle.std.specs.List.{flat_map}
+use Rattle.model.specs.Walk.{slots_of_regions}
+use Rattle.model.specs.Erasing.{body_nodes, region_nodes, op_nodes}
+use Rattle.tables.specs.View.{view}
+use Rattle.walkers.specs.Listed.{nodes_in}
+use Rattle.walkers.proofs.Places.{rest_from}
+use Rattle.walkers.proofs.Backs.{region_in}
+use Rattle.walkers.proofs.Turns.{At}
+use Rattle.walkers.proofs.parts.+listing.Given as goal
+
+abbrev pub decreases-list_body : goal.decreases-list_body
+decreases-list_body l = 2 * length (body_nodes (view l.tables.now) (op_nodes (view l.tables.now)) l.block) + 1
+
+abbrev pub decreases-list_op : goal.decreases-list_op
+decreases-list_op l = 2 * length (op_nodes (view l.tables.now) l.op)
+
+abbrev pub decreases-list_region : goal.decreases-list_region
+decreases-list_region l = 2 * length (region_nodes (view l.tables.now) (op_nodes (view l.tables.now)) l.region)
+
+abbrev pub decreases-list_regions : goal.decreases-list_regions
+decreases-list_regions l = 2 * length (flat_map (region_nodes (view l.tables.now) (op_nodes (view l.tables.now))) (reverse (slots_of_regions (view l.tables.now) l.op))) + 1
+
+abbrev pub invariant-list_body-loop-cursor : goal.invariant-list_body-loop-cursor
+invariant-list_body-loop-cursor l =
+    At (λ b. reverse ((view l.tables).ops_of b)) l.block l.cursor
+    × (nodes_in l.nodes ++ flat_map (op_nodes (view l.tables)) (rest_from l.cursor (reverse ((view l.tables).ops_of l.block))) ≡ nodes_in l.initial.nodes ++ flat_map (op_nodes (view l.tables)) (reverse ((view l.tables).ops_of l.block)))
+
+abbrev pub decreases-list_body-loop-cursor : goal.decreases-list_body-loop-cursor
+decreases-list_body-loop-cursor l = length (rest_from l.cursor (reverse ((view l.tables).ops_of l.block)))
+
+abbrev pub invariant-list_region-loop-cursor : goal.invariant-list_region-loop-cursor
+invariant-list_region-loop-cursor l =
+    At (λ r. reverse ((view l.tables).blocks_of r)) l.region l.cursor
+    × (nodes_in l.nodes ++ flat_map (body_nodes (view l.tables) (op_nodes (view l.tables))) (rest_from l.cursor (reverse ((view l.tables).blocks_of l.region))) ≡ nodes_in l.initial.nodes ++ flat_map (body_nodes (view l.tables) (op_nodes (view l.tables))) (reverse ((view l.tables).blocks_of l.region)))
+
+abbrev pub decreases-list_region-loop-cursor : goal.decreases-list_region-loop-cursor
+decreases-list_region-loop-cursor l = length (rest_from l.cursor (reverse ((view l.tables).blocks_of l.region)))
+
+abbrev pub invariant-list_regions-loop-left : goal.invariant-list_regions-loop-left
+invariant-list_regions-loop-left l =
+    (l.left ≤ length l.regions)
+    × (length (flat_map (region_in l.tables) (reverse (take l.left l.regions))) ≤ length (flat_map (region_in l.tables) (reverse l.regions)))
+    × (nodes_in l.nodes ++ flat_map (region_in l.tables) (reverse (take l.left l.regions)) ≡ nodes_in l.initial.nodes ++ flat_map (region_in l.tables) (reverse l.regions))
+
+abbrev pub decreases-list_regions-loop-left : goal.decreases-list_regions-loop-left
+decreases-list_regions-loop-left l = l.left
