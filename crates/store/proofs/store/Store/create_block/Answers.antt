@@ -8,5 +8,5 @@ use Rattle.store.proofs.store.Store.create_block.Goals as goal
 pub returns : goal.returns
 returns c =
     let m = view c.args.self.now.tables in
-    let h = c.place-block.ensures in
+    let h = c.place_block.ensures in
     record { answer = h; later = subst (Later m) (sym h.after) (create_later m (region_at m c.args.point) c.args.point _ _ h.usable) }

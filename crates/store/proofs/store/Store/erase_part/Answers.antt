@@ -8,16 +8,15 @@ use Rattle.tables.specs.View.{view}
 use Rattle.store.proofs.GoodLaws.{sound_of}
 use Rattle.store.proofs.store.Store.erase_part.Goals as goal
 
-pub erase-nodes-requires : goal.erase-nodes-requires
-erase-nodes-requires c = sound_of c.args.self.now.tables c.args.self.now.good
+pub erase_nodes-requires : goal.erase_nodes-requires
+erase_nodes-requires c = sound_of c.args.self.now.tables c.args.self.now.good
 
-pub invariant-of-self : goal.invariant-of-self
-invariant-of-self c =
+pub invariant_of-self : goal.invariant_of-self
+invariant_of-self c =
     let m = view c.args.self.now.tables in
-    let ns = nodes_in c.args.part.now in (
-      ∥∥₁_map c.args.self.now.good (λ z. record {
-        sized = c.erase-nodes.ensures.sizes ∙ z.sized;
-        sound = subst Sound (sym (c.erase-nodes.ensures.after ∙ ap (erased m) c.as-slice.ensures)) (erase_sound m ns z.sound c.requires.closed c.requires.unused);
-      }),
-      tt,
-    )
+    let ns = nodes_in c.args.part.now in record {
+      good = ∥∥₁_map c.args.self.now.good (λ z. record {
+        sized = c.erase_nodes.ensures.sizes ∙ z.sized;
+        sound = subst Sound (sym (c.erase_nodes.ensures.after ∙ ap (erased m) c.as_slice.ensures)) (erase_sound m ns z.sound c.requires.closed c.requires.unused);
+      });
+    }

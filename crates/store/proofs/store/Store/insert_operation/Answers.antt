@@ -12,6 +12,6 @@ pub returns : goal.returns
 returns c =
     let m = view c.args.self.now.tables in
     record {
-      answer = (sym c.in-default.ensures, c.link-operation.ensures);
-      later = subst (Later m) (sym c.link-operation.ensures) (insert_later m (block_at m c.args.point) c.args.point c.args.op.slot);
+      answer = (sym c.in_default.ensures, c.link_operation.ensures);
+      later = subst (Later m) (sym c.link_operation.ensures) (insert_later m (block_at m c.args.point) c.args.point c.args.op.slot);
     }

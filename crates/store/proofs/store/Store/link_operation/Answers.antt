@@ -15,11 +15,10 @@ insert-requires c =
     let a = insert_allowed (view t) p o c.requires in
     record { node = op_node t g o a.op; unlinked = a.out; linked = ap is_some a.at; container = λ b e. block_within t g b (point_block (view t) (sound_of t g) p b a.live e) }
 
-pub invariant-of-self : goal.invariant-of-self
-invariant-of-self c = (
-  ∥∥₁_map c.args.self.now.good (λ z. record {
+pub invariant_of-self : goal.invariant_of-self
+invariant_of-self c = record {
+  good = ∥∥₁_map c.args.self.now.good (λ z. record {
     sized = c.insert.ensures.sizes ∙ z.sized;
     sound = subst Sound (sym c.insert.ensures.after) (insert_sound (view c.args.self.now.tables) z.sound c.args.point c.args.op c.requires);
-  }),
-  tt,
-)
+  });
+}

@@ -7,5 +7,5 @@ use Rattle.store.proofs.store.Store.live_regions.Goals as goal
 pub returns : goal.returns
 returns c =
     let t = c.args.self.now.tables in
-    let e = c.live-count.ensures in
+    let e = c.live_count.ensures in
     record { answer = e; few = omega (arith, e, lives_few (view t).regions, regions_sized t c.args.self.now.good) }

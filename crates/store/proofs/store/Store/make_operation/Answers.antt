@@ -16,22 +16,21 @@ use Rattle.store.proofs.store.Store.make_operation.Goals as goal
 
 pub unwrap-slot-requires : goal.unwrap-slot-requires
 unwrap-slot-requires c =
-    some_since c.free-slot.result _ _ c.free-slot.ensures
-    (λ z. make_free (view c.args.self.now.tables) c.args.operands.now c.args.result-types.now c.args.regions.now c.in-default.ensures (frees_viewed view_op (cells c.args.self.now.tables.operations) ∙ z))
+    some_since c.free_slot.result _ _ c.free_slot.ensures
+    (λ z. make_free (view c.args.self.now.tables) c.args.operands.now c.args.result_types.now c.args.regions.now c.in_default.ensures (frees_viewed view_op (cells c.args.self.now.tables.operations) ∙ z))
 
-pub invariant-of-self : goal.invariant-of-self
-invariant-of-self c =
+pub invariant_of-self : goal.invariant_of-self
+invariant_of-self c =
     let made = c.make-made.ensures.made in
     let m = view c.args.self.now.tables in
-    let vs = row_items c.unwrap-operand-row.result in
-    let e : vs ≡ c.args.operands.now = cases_some _ _ _ _ c.from-slice.ensures c.unwrap-operand-row.ensures in
-    let live : are_values m vs ≡ true = ap (are_values m) e ∙ make_live m c.args.operands.now c.args.result-types.now c.args.regions.now c.in-default.ensures in (
-      ∥∥₁_map c.args.self.now.good (λ z. record {
+    let vs = row_items c.unwrap-operand_row.result in
+    let e : vs ≡ c.args.operands.now = cases_some _ _ _ _ c.from_slice.ensures c.unwrap-operand_row.ensures in
+    let live : are_values m vs ≡ true = ap (are_values m) e ∙ make_live m c.args.operands.now c.args.result_types.now c.args.regions.now c.in_default.ensures in record {
+      good = ∥∥₁_map c.args.self.now.good (λ z. record {
         sized = c.make-made.ensures.sizes ∙ z.sized;
         sound = subst Sound (sym made.after) (make_sound m _ made.slots _ _ vs _ _ made.usable z.sound live);
-      }),
-      tt,
-    )
+      });
+    }
 
 pub returns : goal.returns
 returns c =

@@ -9,10 +9,10 @@ use Rattle.store.proofs.store.Store.replace_all_uses.Goals as goal
 pub returns : goal.returns
 returns c =
     let m = view c.args.self.now.tables in
-    let after = c.replace-uses.ensures in
+    let after = c.replace_uses.ensures in
     record {
       answer = (
-        ap (λ b. cond (b && is_value m c.args.new) None (Some NotLive)) (sym c.if-not-is-value.ensures) ∙ ap (λ b. cond b None (Some NotLive)) (sym c.if-not-is-value-2.ensures),
+        ap (λ b. cond (b && is_value m c.args.new) None (Some NotLive)) (sym c.if-not-is_value.ensures) ∙ ap (λ b. cond b None (Some NotLive)) (sym c.if-not-is_value-2.ensures),
         after,
       );
       later = subst (Later m) (sym after) (replace_later m c.args.old c.args.new);

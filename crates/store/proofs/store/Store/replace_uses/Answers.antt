@@ -5,11 +5,10 @@ use Rattle.model.proofs.Changing.{replace_sound}
 use Rattle.tables.specs.View.{view}
 use Rattle.store.proofs.store.Store.replace_uses.Goals as goal
 
-pub invariant-of-self : goal.invariant-of-self
-invariant-of-self c = (
-  ∥∥₁_map c.args.self.now.good (λ z. record {
-    sized = c.replace-all-uses.ensures.sizes ∙ z.sized;
-    sound = subst Sound (sym c.replace-all-uses.ensures.after) (replace_sound (view c.args.self.now.tables) c.args.old c.args.new c.requires z.sound);
-  }),
-  tt,
-)
+pub invariant_of-self : goal.invariant_of-self
+invariant_of-self c = record {
+  good = ∥∥₁_map c.args.self.now.good (λ z. record {
+    sized = c.replace_all_uses.ensures.sizes ∙ z.sized;
+    sound = subst Sound (sym c.replace_all_uses.ensures.after) (replace_sound (view c.args.self.now.tables) c.args.old c.args.new c.requires z.sound);
+  });
+}

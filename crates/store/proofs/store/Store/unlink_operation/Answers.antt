@@ -7,20 +7,19 @@ use Rattle.model.specs.Later.{Later}
 use Rattle.model.proofs.Laters.{unlink_later}
 use Rattle.store.proofs.store.Store.unlink_operation.Goals as goal
 
-pub invariant-of-self : goal.invariant-of-self
-invariant-of-self c =
+pub invariant_of-self : goal.invariant_of-self
+invariant_of-self c =
     let m = view c.args.self.now.tables in
-    let s = c.args.op.slot in (
-      ∥∥₁_map c.args.self.now.good (λ z. record {
+    let s = c.args.op.slot in record {
+      good = ∥∥₁_map c.args.self.now.good (λ z. record {
         sized = c.unlink.ensures.sizes ∙ z.sized;
         sound = subst Sound (sym c.unlink.ensures.after) (unlink_sound m s (m.home_of s) refl z.sound);
-      }),
-      tt,
-    )
+      });
+    }
 
 pub returns : goal.returns
 returns c =
     let m = view c.args.self.now.tables in
     let s = c.args.op.slot in
     let after = c.unlink.ensures.after in
-    record { answer = (sym c.in-default.ensures, after); later = subst (Later m) (sym after) (unlink_later m s (m.home_of s)) }
+    record { answer = (sym c.in_default.ensures, after); later = subst (Later m) (sym after) (unlink_later m s (m.home_of s)) }
