@@ -19,7 +19,7 @@ impl<L: RewriteListener> IRRewriter<L> {
         value: Value,
         to: u32,
     ) -> Result<(), Refusal>
-        ensures { Performed keeps (world log store.old self.old) (set_type value to) (world log store.new self.new) (told result) }
+        ensures { Performed L.keeps (world L.log store.old self.old) (set_type value to) (world L.log store.new self.new) (told result) }
     {
         let Some(from) = store.value_type(value) else {
             return Err(Refusal::NotLive);
@@ -42,7 +42,7 @@ impl<L: RewriteListener> IRRewriter<L> {
         old: Value,
         new: Value,
     ) -> Result<(), Refusal>
-        ensures { Performed keeps (world log store.old self.old) (replace_uses old new) (world log store.new self.new) (told result) }
+        ensures { Performed L.keeps (world L.log store.old self.old) (replace_uses old new) (world L.log store.new self.new) (told result) }
     {
         let Some(from) = store.value_type(old) else {
             return Err(Refusal::NotLive);

@@ -25,8 +25,8 @@ fn erasure(node: IRNode) -> RecorderEvent
 
 /// Tells `listener` that `nodes` are erased.
 pub fn notify_erasures<L: RewriteListener>(listener: &mut L, nodes: &[IRNode])
-    requires { fits keeps (log listener.old) (length nodes.now) ≡ true }
-    ensures { log listener.new ≡ log listener.old ++ kept keeps (map erasing nodes.now) }
+    requires { fits L.keeps (L.log listener.old) (length nodes.now) ≡ true }
+    ensures { L.log listener.new ≡ L.log listener.old ++ kept L.keeps (map erasing nodes.now) }
 {
     for node in nodes {
         listener.notify(erasure(*node));
@@ -36,7 +36,7 @@ pub fn notify_erasures<L: RewriteListener>(listener: &mut L, nodes: &[IRNode])
 impl<L: RewriteListener> IRRewriter<L> {
     /// Erases `node` and all that lies in it.
     fn erase(&mut self, store: &mut Store, node: IRNode) -> Result<(), Refusal>
-        ensures { Performed keeps (world log store.old self.old) (erase node) (world log store.new self.new) (told result) }
+        ensures { Performed L.keeps (world L.log store.old self.old) (erase node) (world L.log store.new self.new) (told result) }
     {
         store.list_part(node, &mut self.part)?;
         if store.used_outside(&self.part) {
@@ -52,21 +52,21 @@ impl<L: RewriteListener> IRRewriter<L> {
 
     /// Erases `op` and all that lies in it.
     pub fn erase_operation(&mut self, store: &mut Store, op: OpId) -> Result<(), Refusal>
-        ensures { Performed keeps (world log store.old self.old) (erase (Operation op)) (world log store.new self.new) (told result) }
+        ensures { Performed L.keeps (world L.log store.old self.old) (erase (Operation op)) (world L.log store.new self.new) (told result) }
     {
         self.erase(store, IRNode::Operation(op))
     }
 
     /// Erases `block` and all that lies in it.
     pub fn erase_block(&mut self, store: &mut Store, block: BlockId) -> Result<(), Refusal>
-        ensures { Performed keeps (world log store.old self.old) (erase (BasicBlock block)) (world log store.new self.new) (told result) }
+        ensures { Performed L.keeps (world L.log store.old self.old) (erase (BasicBlock block)) (world L.log store.new self.new) (told result) }
     {
         self.erase(store, IRNode::BasicBlock(block))
     }
 
     /// Erases `region` and all that lies in it.
     pub fn erase_region(&mut self, store: &mut Store, region: RegionId) -> Result<(), Refusal>
-        ensures { Performed keeps (world log store.old self.old) (erase (Region region)) (world log store.new self.new) (told result) }
+        ensures { Performed L.keeps (world L.log store.old self.old) (erase (Region region)) (world L.log store.new self.new) (told result) }
     {
         self.erase(store, IRNode::Region(region))
     }

@@ -14,7 +14,7 @@ use store::store::Store;
 impl<L: RewriteListener> IRRewriter<L> {
     /// Puts `op` at the insertion point, which stays where it is.
     pub fn insert_operation(&mut self, store: &mut Store, op: OpId) -> Result<(), Refusal>
-        ensures { Performed keeps (world log store.old self.old) (insert op) (world log store.new self.new) (told result) }
+        ensures { Performed L.keeps (world L.log store.old self.old) (insert op) (world L.log store.new self.new) (told result) }
     {
         if let Some(refusal) = store.check_insert(self.point, op) {
             return Err(refusal);
@@ -29,7 +29,7 @@ impl<L: RewriteListener> IRRewriter<L> {
 
     /// Puts `op` at the insertion point, which moves behind it.
     pub fn append_operation(&mut self, store: &mut Store, op: OpId) -> Result<(), Refusal>
-        ensures { Performed keeps (world log store.old self.old) (append op) (world log store.new self.new) (told result) }
+        ensures { Performed L.keeps (world L.log store.old self.old) (append op) (world L.log store.new self.new) (told result) }
     {
         self.insert_operation(store, op)?;
         self.point = OpInsertionPoint::AfterOperation(op);
@@ -43,7 +43,7 @@ impl<L: RewriteListener> IRRewriter<L> {
         point: BlockInsertionPoint,
         arg_types: &[u32],
     ) -> Result<BlockId, Refusal>
-        ensures { Performed keeps (world log store.old self.old) (create point arg_types.now) (world log store.new self.new) (told_block result) }
+        ensures { Performed L.keeps (world L.log store.old self.old) (create point arg_types.now) (world L.log store.new self.new) (told_block result) }
     {
         if let Some(refusal) = store.check_create(point, arg_types) {
             return Err(refusal);

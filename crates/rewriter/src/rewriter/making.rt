@@ -44,7 +44,7 @@ impl<L: RewriteListener> IRRewriter<L> {
     pub fn set_insertion_point(&mut self, point: OpInsertionPoint)
         ensures point { self.new.point ≡ point }
         ensures listener { self.new.listener ≡ self.old.listener }
-        ensures call { PointSet keeps log self.old point self.new }
+        ensures call { PointSet L.keeps L.log self.old point self.new }
     {
         self.point = point;
     }
@@ -65,7 +65,7 @@ impl<L: RewriteListener> IRRewriter<L> {
         result_types: &[u32],
         regions: &[bool],
     ) -> Result<OpId, Refusal>
-        ensures { Performed keeps (world log store.old self.old) (make kind note operands.now result_types.now regions.now) (world log store.new self.new) (told_op result) }
+        ensures { Performed L.keeps (world L.log store.old self.old) (make kind note operands.now result_types.now regions.now) (world L.log store.new self.new) (told_op result) }
     {
         store.make_operation(kind, note, operands, result_types, regions)
     }

@@ -15,7 +15,7 @@ use store::store::Store;
 impl<L: RewriteListener> IRRewriter<L> {
     /// Takes `op` out of its block.
     pub fn unlink_operation(&mut self, store: &mut Store, op: OpId) -> Result<(), Refusal>
-        ensures { Performed keeps (world log store.old self.old) (unlink op) (world log store.new self.new) (told result) }
+        ensures { Performed L.keeps (world L.log store.old self.old) (unlink op) (world L.log store.new self.new) (told result) }
     {
         if let Some(refusal) = store.check_unlink(op) {
             return Err(refusal);
@@ -36,7 +36,7 @@ impl<L: RewriteListener> IRRewriter<L> {
         op: OpId,
         point: OpInsertionPoint,
     ) -> Result<(), Refusal>
-        ensures { Performed keeps (world log store.old self.old) (move op point) (world log store.new self.new) (told result) }
+        ensures { Performed L.keeps (world L.log store.old self.old) (move op point) (world L.log store.new self.new) (told result) }
     {
         if let Some(refusal) = store.check_move(op, point) {
             return Err(refusal);

@@ -26,9 +26,9 @@ use walkers::Nodes;
 fn replace_value<L: RewriteListener>(store: &mut Store, listener: &mut L, old: Value, new: Value)
     requires old { is_value (meaning store.old) old ≡ true }
     requires new { is_value (meaning store.old) new ≡ true }
-    requires room { fits keeps (log listener.old) 1 ≡ true }
+    requires room { fits L.keeps (L.log listener.old) 1 ≡ true }
     ensures store { meaning store.new ≡ replace_all (meaning store.old) old new }
-    ensures log { log listener.new ≡ log listener.old ++ kept keeps (ReplacedValueUses old (type_now (meaning store.old) old) new ∷ []) }
+    ensures log { L.log listener.new ≡ L.log listener.old ++ kept L.keeps (ReplacedValueUses old (type_now (meaning store.old) old) new ∷ []) }
 {
     let from = store.value_type(old).unwrap();
     listener.notify(RecorderEvent::ReplacedValueUses(old, from, new));
@@ -45,9 +45,9 @@ fn replace_each<L: RewriteListener>(
     requires counts { length olds.now ≡ length news.now }
     requires olds { are_values (meaning store.old) olds.now ≡ true }
     requires news { are_values (meaning store.old) news.now ≡ true }
-    requires room { fits keeps (log listener.old) (length olds.now) ≡ true }
+    requires room { fits L.keeps (L.log listener.old) (length olds.now) ≡ true }
     ensures store { meaning store.new ≡ replace_each (meaning store.old) olds.now news.now }
-    ensures log { log listener.new ≡ log listener.old ++ kept keeps (replacing (meaning store.old) olds.now news.now) }
+    ensures log { L.log listener.new ≡ L.log listener.old ++ kept L.keeps (replacing (meaning store.old) olds.now news.now) }
 {
     for i in 0..olds.len() {
         replace_value(store, listener, olds[i], news[i]);
@@ -80,7 +80,7 @@ impl<L: RewriteListener> IRRewriter<L> {
         op: OpId,
         values: &[Value],
     ) -> Result<(), Refusal>
-        ensures { Performed keeps (world log store.old self.old) (replace_with op values.now) (world log store.new self.new) (told result) }
+        ensures { Performed L.keeps (world L.log store.old self.old) (replace_with op values.now) (world L.log store.new self.new) (told result) }
     {
         store.list_part(IRNode::Operation(op), &mut self.part)?;
         if !store.are_live(values) {
@@ -106,7 +106,7 @@ impl<L: RewriteListener> IRRewriter<L> {
         op: OpId,
         new_op: OpId,
     ) -> Result<(), Refusal>
-        ensures { Performed keeps (world log store.old self.old) (replace_by op new_op) (world log store.new self.new) (told result) }
+        ensures { Performed L.keeps (world L.log store.old self.old) (replace_by op new_op) (world L.log store.new self.new) (told result) }
     {
         if !store.is_live(IRNode::Operation(new_op)) {
             return Err(Refusal::NotLive);

@@ -45,7 +45,7 @@ impl<'a, L: RewriteListener> ScopedRewriter<'a, L> {
 
     /// Puts `op` at the insertion point.
     pub fn insert_operation(&mut self, store: &mut Store, op: OpId) -> Result<(), Refusal>
-        ensures call { Performed keeps (world log store.old self.old.rewriter.now) (insert op) (world log store.new self.new.rewriter.now) (told result) }
+        ensures call { Performed L.keeps (world L.log store.old self.old.rewriter.now) (insert op) (world L.log store.new self.new.rewriter.now) (told result) }
         ensures previous { self.new.previous ≡ self.old.previous }
         ensures named { self.new.rewriter.ghost_name ≡ self.old.rewriter.ghost_name }
     {

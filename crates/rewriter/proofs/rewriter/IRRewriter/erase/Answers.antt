@@ -9,31 +9,31 @@ use Rattle.calls.proofs.Outcomes.{performed_refused}
 use Rattle.rewriter.proofs.Erasures.{erase_refused, erase_used, erase_full, erase_done}
 use Rattle.rewriter.proofs.rewriter.IRRewriter.erase.Goals as goal
 
-pub returns-in-err-list-part : goal.returns-in-err-list-part
-returns-in-err-list-part g c =
-    let p = err_from_is_err_and c.from-residual.result c.from-residual.ensures.1 in
-    let h = c.in-err-list-part.ensures in
+pub returns-in_err-list_part : goal.returns-in_err-list_part
+returns-in_err-list_part g c =
+    let p = err_from_is_err_and c.from_residual.result c.from_residual.ensures.1 in
+    let h = c.in_err-list_part.ensures in
     rw (p.1, p.2, h.1) (performed_refused _ _ (erase c.args.node) NotLive (erase_refused (meaning c.args.store.now) c.args.node h.0))
 
-pub returns-then-used-outside : goal.returns-then-used-outside
-returns-then-used-outside g c = erase_used _ _ c.args.node (nodes_in c.list-part.new.part) c.in-ok-list-part.ensures c.if-used-outside.ensures
+pub returns-then-used_outside : goal.returns-then-used_outside
+returns-then-used_outside g c = erase_used _ _ c.args.node (nodes_in c.list_part.new.part) c.in_ok-list_part.ensures c.if-used_outside.ensures
 
 pub returns-then-not-takes : goal.returns-then-not-takes
 returns-then-not-takes g c =
-    erase_full _ _ c.args.node (nodes_in c.list-part.new.part) c.in-ok-list-part.ensures c.if-used-outside.ensures
+    erase_full _ _ c.args.node (nodes_in c.list_part.new.part) c.in_ok-list_part.ensures c.if-used_outside.ensures
     (ap (fits g.L.RewriteListener.keeps (g.L.RewriteListener.log c.args.self.now.listener)) (sym c.len.ensures) ∙ sym c.if-not-takes.ensures)
 
-pub notify-erasures-requires : goal.notify-erasures-requires
-notify-erasures-requires g c =
-    ap (fits g.L.RewriteListener.keeps (g.L.RewriteListener.log c.args.self.now.listener)) (ap length c.as-slice.ensures ∙ sym c.len.ensures) ∙ sym c.if-not-takes.ensures
+pub notify_erasures-requires : goal.notify_erasures-requires
+notify_erasures-requires g c =
+    ap (fits g.L.RewriteListener.keeps (g.L.RewriteListener.log c.args.self.now.listener)) (ap length c.as_slice.ensures ∙ sym c.len.ensures) ∙ sym c.if-not-takes.ensures
 
-pub erase-part-requires : goal.erase-part-requires
-erase-part-requires g c = record { closed = c.in-ok-list-part.ensures.closed; unused = sym c.if-used-outside.ensures }
+pub erase_part-requires : goal.erase_part-requires
+erase_part-requires g c = record { closed = c.in_ok-list_part.ensures.closed; unused = sym c.if-used_outside.ensures }
 
 pub returns : goal.returns
 returns g c =
     let keeps = g.L.RewriteListener.keeps in
     let es = g.L.RewriteListener.log c.args.self.now.listener in
-    erase_done _ _ c.args.node (nodes_in c.list-part.new.part) c.in-ok-list-part.ensures c.if-used-outside.ensures
-    (ap (fits keeps es) (sym c.len.ensures) ∙ sym c.if-not-takes.ensures) _ c.erase-part.ensures refl
-    (c.notify-erasures.ensures ∙ ap (λ ns. es ++ kept keeps (map erasing ns)) c.as-slice.ensures)
+    erase_done _ _ c.args.node (nodes_in c.list_part.new.part) c.in_ok-list_part.ensures c.if-used_outside.ensures
+    (ap (fits keeps es) (sym c.len.ensures) ∙ sym c.if-not-takes.ensures) _ c.erase_part.ensures refl
+    (c.notify_erasures.ensures ∙ ap (λ ns. es ++ kept keeps (map erasing ns)) c.as_slice.ensures)

@@ -6,25 +6,25 @@ use Rattle.calls.proofs.Outcomes.{performed_refused}
 use Rattle.rewriter.proofs.Values.{old_refused, new_refused, uses_same, uses_full, uses_done}
 use Rattle.rewriter.proofs.rewriter.IRRewriter.replace_value_uses_with.Goals as goal
 
-pub returns-in-default : goal.returns-in-default
-returns-in-default g c = performed_refused _ _ (replace_uses c.args.old c.args.new) NotLive (old_refused (meaning c.args.store.now) c.args.old c.args.new c.in-default.ensures)
+pub returns-in_default : goal.returns-in_default
+returns-in_default g c = performed_refused _ _ (replace_uses c.args.old c.args.new) NotLive (old_refused (meaning c.args.store.now) c.args.old c.args.new c.in_default.ensures)
 
-pub returns-then-is-none : goal.returns-then-is-none
-returns-then-is-none g c =
+pub returns-then-is_none : goal.returns-then-is_none
+returns-then-is_none g c =
     performed_refused _ _ (replace_uses c.args.old c.args.new) NotLive
-    (new_refused (meaning c.args.store.now) c.args.old c.args.new c.in-Some.from c.in-Some.ensures (ap is_some (sym c.value-type-2.ensures) ∙ c.if-is-none.ensures))
+    (new_refused (meaning c.args.store.now) c.args.old c.args.new c.in-Some.from c.in-Some.ensures (ap is_some (sym c.value_type-2.ensures) ∙ c.if-is_none.ensures))
 
-pub returns-then-same-value : goal.returns-then-same-value
-returns-then-same-value g c =
-    uses_same _ _ c.args.old c.args.new c.in-Some.from c.in-Some.ensures (ap is_some (sym c.value-type-2.ensures) ∙ c.if-is-none.ensures) c.if-same-value.ensures
+pub returns-then-same_value : goal.returns-then-same_value
+returns-then-same_value g c =
+    uses_same _ _ c.args.old c.args.new c.in-Some.from c.in-Some.ensures (ap is_some (sym c.value_type-2.ensures) ∙ c.if-is_none.ensures) c.if-same_value.ensures
     (g.met.L.RewriteListener.within c.args.self.now.listener)
 
 pub returns-then-not-takes : goal.returns-then-not-takes
 returns-then-not-takes g c =
-    uses_full _ _ c.args.old c.args.new c.in-Some.from c.in-Some.ensures (ap is_some (sym c.value-type-2.ensures) ∙ c.if-is-none.ensures) c.if-same-value.ensures
+    uses_full _ _ c.args.old c.args.new c.in-Some.from c.in-Some.ensures (ap is_some (sym c.value_type-2.ensures) ∙ c.if-is_none.ensures) c.if-same_value.ensures
     (sym c.if-not-takes.ensures)
 
 pub returns : goal.returns
 returns g c =
-    uses_done _ _ c.args.old c.args.new c.in-Some.from c.in-Some.ensures (ap is_some (sym c.value-type-2.ensures) ∙ c.if-is-none.ensures) c.if-same-value.ensures
-    (sym c.if-not-takes.ensures) _ refl c.notify.ensures c.replace-all-uses.result c.replace-all-uses.ensures.answer
+    uses_done _ _ c.args.old c.args.new c.in-Some.from c.in-Some.ensures (ap is_some (sym c.value_type-2.ensures) ∙ c.if-is_none.ensures) c.if-same_value.ensures
+    (sym c.if-not-takes.ensures) _ refl c.notify.ensures c.replace_all_uses.result c.replace_all_uses.ensures.answer

@@ -7,8 +7,8 @@ use Rattle.calls.proofs.Outcomes.{performed_refused}
 use Rattle.rewriter.proofs.Values.{type_refused, type_same, type_full, type_done}
 use Rattle.rewriter.proofs.rewriter.IRRewriter.set_value_type.Goals as goal
 
-pub returns-in-default : goal.returns-in-default
-returns-in-default g c = performed_refused _ _ (set_type c.args.value c.args.to) NotLive (type_refused (meaning c.args.store.now) c.args.value c.in-default.ensures)
+pub returns-in_default : goal.returns-in_default
+returns-in_default g c = performed_refused _ _ (set_type c.args.value c.args.to) NotLive (type_refused (meaning c.args.store.now) c.args.value c.in_default.ensures)
 
 pub returns-then-from-to : goal.returns-then-from-to
 returns-then-from-to g c =
@@ -20,4 +20,4 @@ returns-then-not-takes g c =
 
 pub returns : goal.returns
 returns g c =
-    type_done _ _ c.args.value c.in-Some.from c.args.to c.in-Some.ensures (sym (ne_eqb c.in-Some.from c.args.to c.if-from-to.false)) (sym c.if-not-takes.ensures) _ refl c.notify.ensures c.set-value-type.result c.set-value-type.ensures.answer
+    type_done _ _ c.args.value c.in-Some.from c.args.to c.in-Some.ensures (sym (ne_eqb c.in-Some.from c.args.to c.if-from-to.false)) (sym c.if-not-takes.ensures) _ refl c.notify.ensures c.set_value_type.result c.set_value_type.ensures.answer

@@ -14,25 +14,25 @@ returns-then-len-values c =
     exchange_reasons (meaning c.args.store.now) c.args.op vs ws (nodes_in c.args.part.now) c.results-results.ensures c.requires false _ _
     (sym (ne_eqb (length vs) (length ws) (λ e. c.if-len-values.true (c.len.ensures.value ∙ e)))) refl refl
 
-pub returns-then-used-after : goal.returns-then-used-after
-returns-then-used-after c =
-    let vs = c.as-slice.result.now in
+pub returns-then-used_after : goal.returns-then-used_after
+returns-then-used_after c =
+    let vs = c.as_slice.result.now in
     let ws = c.args.values.now in
-    exchange_reasons (meaning c.args.store.now) c.args.op vs ws (nodes_in c.args.part.now) (c.as-slice.ensures ∙ c.results-results.ensures) c.requires true true _
-    (sym (eq-eqb (length vs) (length ws) (ap length c.as-slice.ensures ∙ sym c.len.ensures.value ∙ c.if-len-values.false))) c.if-used-after.ensures refl
+    exchange_reasons (meaning c.args.store.now) c.args.op vs ws (nodes_in c.args.part.now) (c.as_slice.ensures ∙ c.results-results.ensures) c.requires true true _
+    (sym (eq-eqb (length vs) (length ws) (ap length c.as_slice.ensures ∙ sym c.len.ensures.value ∙ c.if-len-values.false))) c.if-used_after.ensures refl
 
-pub returns-then-some-defined : goal.returns-then-some-defined
-returns-then-some-defined c =
-    let vs = c.as-slice.result.now in
+pub returns-then-some_defined : goal.returns-then-some_defined
+returns-then-some_defined c =
+    let vs = c.as_slice.result.now in
     let ws = c.args.values.now in
-    exchange_reasons (meaning c.args.store.now) c.args.op vs ws (nodes_in c.args.part.now) (c.as-slice.ensures ∙ c.results-results.ensures) c.requires true false true
-    (sym (eq-eqb (length vs) (length ws) (ap length c.as-slice.ensures ∙ sym c.len.ensures.value ∙ c.if-len-values.false))) c.if-used-after.ensures
-    (c.if-some-defined.ensures ∙ ap (λ ns. some_defined ns ws) c.as-slice-2.ensures)
+    exchange_reasons (meaning c.args.store.now) c.args.op vs ws (nodes_in c.args.part.now) (c.as_slice.ensures ∙ c.results-results.ensures) c.requires true false true
+    (sym (eq-eqb (length vs) (length ws) (ap length c.as_slice.ensures ∙ sym c.len.ensures.value ∙ c.if-len-values.false))) c.if-used_after.ensures
+    (c.if-some_defined.ensures ∙ ap (λ ns. some_defined ns ws) c.as_slice-2.ensures)
 
 pub returns : goal.returns
 returns c =
-    let vs = c.as-slice.result.now in
+    let vs = c.as_slice.result.now in
     let ws = c.args.values.now in
-    exchange_reasons (meaning c.args.store.now) c.args.op vs ws (nodes_in c.args.part.now) (c.as-slice.ensures ∙ c.results-results.ensures) c.requires true false false
-    (sym (eq-eqb (length vs) (length ws) (ap length c.as-slice.ensures ∙ sym c.len.ensures.value ∙ c.if-len-values.false))) c.if-used-after.ensures
-    (c.if-some-defined.ensures ∙ ap (λ ns. some_defined ns ws) c.as-slice-2.ensures)
+    exchange_reasons (meaning c.args.store.now) c.args.op vs ws (nodes_in c.args.part.now) (c.as_slice.ensures ∙ c.results-results.ensures) c.requires true false false
+    (sym (eq-eqb (length vs) (length ws) (ap length c.as_slice.ensures ∙ sym c.len.ensures.value ∙ c.if-len-values.false))) c.if-used_after.ensures
+    (c.if-some_defined.ensures ∙ ap (λ ns. some_defined ns ws) c.as_slice-2.ensures)

@@ -5,8 +5,8 @@ use Rattle.rewriter.proofs.rewriter.replacing.replace_each.Goals as goal
 pub loop-i-init : goal.loop-i-init
 loop-i-init g c = record { model = refl; records = refl; olds = c.requires.olds; news = c.requires.news; room = c.requires.room }
 
-pub replace-value-requires : goal.replace-value-requires
-replace-value-requires g c =
+pub replace_value-requires : goal.replace_value-requires
+replace_value-requires g c =
     let vs = c.args.olds.now in
     let ws = c.args.news.now in
     let i = c.loop-i.i in
@@ -20,7 +20,7 @@ loop-i-preserved g c =
     let ws = c.args.news.now in
     let i = c.loop-i.i in
     let within : i < length ws = omega (arith, c.loop-i-test.true, c.requires.counts) in
-    ahead_step _ _ _ _ _ _ _ _ _ (ahead_next _ _ _ _ _ vs ws i _ _ c.loop-i-test.true within c.loop-i.invariant) _ _ c.replace-value.ensures.store c.replace-value.ensures.log
+    ahead_step _ _ _ _ _ _ _ _ _ (ahead_next _ _ _ _ _ vs ws i _ _ c.loop-i-test.true within c.loop-i.invariant) _ _ c.replace_value.ensures.store c.replace_value.ensures.log
 
 pub returns : goal.returns
 returns g c =
