@@ -1,5 +1,5 @@
 -- What a rewriter sees and changes, and what it is asked.
-use Rattle.std.specs.Prelude.{ℕ, ◌+◌, Bool, true, false, List, [], ◌∷◌, ◌++◌, length, nat_le}
+use Rattle.std.specs.Prelude.{ℕ, ◌+◌, Bool, true, false, List, [], length, nat_le}
 use Rattle.model.specs.declared.ids.OpId.{OpId}
 use Rattle.model.specs.declared.ids.BlockId.{BlockId}
 use Rattle.model.specs.declared.ids.Value.{Value}

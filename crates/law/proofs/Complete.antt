@@ -1,11 +1,11 @@
 -- When no work is left, all that was met is settled.
-use Rattle.std.proofs.Common.{◌≡◌, ℕ, zero, suc, ◌+◌, ◌<◌, true, false, ◌⊎◌, List, [], ◌∷◌, ◌++◌, sym, refl, ap, ◌∙◌, subst, inl, inr, arith}
+use Rattle.std.proofs.Common.{◌≡◌, ℕ, zero, suc, ◌<◌, true, false, ◌⊎◌, List, [], ◌∷◌, ◌++◌, sym, refl, ap, ◌∙◌, subst, inl, inr, arith}
 use mathlib.Core.Option.{none, some}
 use Rattle.std.proofs.lemmas.Bool.{cases_Bool, both_ways, and_parts, and_from}
 use Rattle.law.specs.Lists.{In, Follows, member, then}
 use Rattle.law.specs.Setting.{Setting}
 use Rattle.law.specs.Laws.{Laws}
-use Rattle.law.specs.Machine.{Mark, unmarked, queued, rewritten, aside, asking, Moment, asked, queues, rewrote, State, put, queue_all, kept, askable, due, dues, first_due, ask_all, ask_along, queue_each, meet_all, mark_all, lay_all, during, Agree, Step, retype, stale, sets_aside, wait, rewrite, Reached, begun, more}
+use Rattle.law.specs.Machine.{Mark, unmarked, queued, rewritten, aside, asking, Moment, asked, rewrote, State, put, queue_all, kept, askable, due, dues, first_due, ask_all, ask_along, queue_each, meet_all, mark_all, lay_all, during, Agree, Step, retype, stale, sets_aside, wait, rewrite, Reached, begun, more}
 use Rattle.law.specs.Law.{met_of, rewrites_of, mets_of, last_answer, Complete}
 use Rattle.law.proofs.Lists.{in_cases, in_left, in_right, keep_in, first_none, first_some, none_some, some_some}
 use Rattle.law.proofs.Chains.{follows_member}

@@ -1,9 +1,9 @@
 -- Soundness has one proof at most, so that it can be taken out of a truncation.
-use Rattle.std.proofs.Common.{◌≡◌, ℕ, ◌⊎◌, List, [], ◌∷◌, Some, None, Option, sym, refl, ap, ◌∙◌, subst, inl, inr, arith}
+use Rattle.std.proofs.Common.{◌≡◌, ℕ, List, [], ◌∷◌, Some, None, Option, refl, ap, subst, inl, inr, arith}
 use mathlib.Core.Logic.{∥∥₁_elim}
 use mathlib.Core.HLevel.{Π_prop}
 use native.Mathlib.Bridge.{le_prop}
-use base.Stored.{Coded, Coded-set, coded_ℕ, coded_list, coded_via}
+use base.Stored.{Coded-set, coded_ℕ, coded_list, coded_via}
 use Rattle.std.specs.Option.{option_to_list}
 use Rattle.lists.specs.declared.links.Links.{Links}
 use Rattle.lists.specs.declared.links.Ends.{Ends}

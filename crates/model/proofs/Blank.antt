@@ -1,7 +1,6 @@
 -- A store with nothing in it is sound.
-use Rattle.std.proofs.Common.{◌≡◌, ℕ, zero, suc, Bool, true, false, List, [], ◌∷◌, replicate, Some, None, sym, refl, ap, ◌∙◌, arith}
-use Rattle.slots.specs.Cells.{Cell}
-use Rattle.slots.specs.Cells.{Free, Live, Spent}
+use Rattle.std.proofs.Common.{◌≡◌, ℕ, zero, suc, false, replicate, sym, refl, ap, ◌∙◌}
+use Rattle.slots.specs.Cells.{Free, Live}
 use Rattle.slots.specs.Cells.{cell_at, is_live}
 use Rattle.slots.proofs.CellLaws.{never}
 use Rattle.lists.proofs.Chains.{some_none}

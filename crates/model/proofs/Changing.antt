@@ -1,5 +1,5 @@
 -- A store in which a type was set, or uses were replaced, is sound.
-use Rattle.std.proofs.Common.{◌≡◌, ℕ, Bool, true, false, cond, ◌&&◌, ◌⊎◌, List, [], ◌∷◌, map, length, set, sym, refl, ap, ◌∙◌, inl, inr}
+use Rattle.std.proofs.Common.{◌≡◌, ℕ, Bool, true, false, cond, List, [], ◌∷◌, map, length, set, sym, refl, ap, ◌∙◌, inl, inr}
 use Rattle.std.proofs.lemmas.List.{get_or-set_same, get_or-set_other, set_past, length-set}
 use Rattle.std.proofs.lemmas.Bool.{cases_eq, cases_lt, and_parts, and_from}
 use Rattle.slots.specs.Cells.{Cell}
@@ -9,7 +9,7 @@ use Rattle.slots.proofs.CellLaws.{cell_at_viewed}
 use Rattle.model.specs.declared.ids.DefiningEntity.{DefiningEntity}
 use Rattle.model.specs.declared.ids.DefiningEntity.TheVariants as definer
 use Rattle.model.specs.declared.ids.Value.{Value}
-use Rattle.model.specs.Model.{Model, Operation, Block, types_of, results_of, is_value, are_values}
+use Rattle.model.specs.Model.{Model, types_of, results_of, is_value, are_values}
 use Rattle.model.specs.Calls.{retyped, reargued, typed_at, same_value, replaced, reused, replace_all}
 use Rattle.model.specs.Sound.{Sound}
 use Rattle.model.proofs.InPlace.{Changed, found_same, values_same, ops_sound, blocks_sound}

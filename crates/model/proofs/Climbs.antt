@@ -1,15 +1,12 @@
 -- How far a climb can go.
-use Rattle.std.proofs.Common.{◌≡◌, ℕ, zero, suc, ◌<◌, ◌≤◌, Bool, true, false, ◌||◌, eqb, ◌⊎◌, List, [], ◌∷◌, length, Some, None, Option, sym, refl, ap, ◌∙◌, subst, inl, inr, arith}
+use Rattle.std.proofs.Common.{◌≡◌, ℕ, zero, suc, ◌<◌, ◌≤◌, true, false, ◌||◌, eqb, List, [], ◌∷◌, length, Some, None, Option, sym, refl, ap, ◌∙◌, subst, inl, inr, arith}
 use Rattle.std.proofs.lemmas.Bool.{eq-eqb, ne_eqb}
-use Rattle.slots.specs.Cells.{Cell}
-use Rattle.slots.specs.Cells.{Free, Live, Spent}
 use Rattle.slots.specs.Cells.{cell_at, is_live, holds}
 use Rattle.slots.proofs.CellLaws.{live_is, live_within, found_live}
 use Rattle.lists.specs.Walk.{In, Apart}
 use Rattle.lists.proofs.Chains.{some_none, some_some}
 use Rattle.lists.proofs.Counts.{few}
 use Rattle.model.specs.declared.ids.OpId.{OpId}
-use Rattle.model.specs.declared.ids.Region.{Region}
 use Rattle.model.specs.Model.{Model, Operation, above, up, bind, owner_slot, find_op, regions_of, inside_by, whether}
 use Rattle.model.specs.Sound.{Sound, Steps, Among}
 

@@ -14,7 +14,7 @@ use Rattle.model.specs.declared.ids.RegionId.{RegionId}
 use Rattle.model.specs.declared.ids.Region.{Region}
 use Rattle.model.specs.declared.ids.IRNode.{IRNode}
 use Rattle.model.specs.declared.ids.IRNode.TheVariants as node
-use Rattle.model.specs.Model.{Model, Operation, above, up, bind, owner_slot, op_id, block_id, region_id, regions_of, find_region}
+use Rattle.model.specs.Model.{Model, above, up, bind, owner_slot, op_id, block_id, region_id, regions_of, find_region}
 use Rattle.model.specs.Walk.{slots_of_regions, Distinct, owner, Leads}
 use Rattle.model.specs.Sound.{Sound, Among}
 use Rattle.model.specs.Erasing.{is_op, is_block, is_region, has, has_op, has_block, has_region, is_node, disowned, erased, Closed, used_outside, body_nodes, block_nodes, edge_nodes, region_nodes, op_nodes_by, op_nodes, part_of}

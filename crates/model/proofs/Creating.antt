@@ -1,14 +1,13 @@
 -- A store with one block more is sound.
-use Rattle.std.proofs.Common.{◌≡◌, ℕ, Bool, true, false, ◌⊎◌, List, [], ◌∷◌, ◌++◌, set, is_some, Some, None, Option, sym, refl, ap, ◌∙◌, subst, inl, inr}
+use Rattle.std.proofs.Common.{◌≡◌, ℕ, true, List, ◌∷◌, ◌++◌, is_some, Some, None, Option, sym, refl, ap, ◌∙◌, subst, inl, inr}
 use mathlib.Core.Path.{fun_ext}
 use Rattle.std.proofs.lemmas.List.{get_or-set_same, get_or-set_other}
 use Rattle.std.proofs.lemmas.Bool.{cases_eq}
-use Rattle.slots.specs.Cells.{Cell}
-use Rattle.slots.specs.Cells.{Free, Live, Spent}
-use Rattle.slots.specs.Cells.{cell_at, is_free, is_live, next_of, holds}
-use Rattle.slots.proofs.CellLaws.{never, free_within, live_not_free, live_is}
+use Rattle.slots.specs.Cells.{Spent}
+use Rattle.slots.specs.Cells.{cell_at, is_free, is_live, holds}
+use Rattle.slots.proofs.CellLaws.{free_within, live_not_free, live_is}
 use Rattle.lists.proofs.Chains.{some_some}
-use Rattle.model.specs.Model.{Model, Block, put, bind, above, up, owner_slot}
+use Rattle.model.specs.Model.{Model, put, bind, above, up, owner_slot}
 use Rattle.model.specs.Calls.{create_at}
 use Rattle.model.specs.Sound.{Sound, Steps}
 use Rattle.model.proofs.Frames.{Keeps, values_kept, is_live_kept}

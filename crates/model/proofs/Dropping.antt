@@ -1,15 +1,14 @@
 -- A store without an operation that has no region, lies in no block and is not used is sound.
-use Rattle.std.proofs.Common.{◌≡◌, ℕ, ◌+◌, ◌<◌, Bool, true, false, cond, not, ◌&&◌, eqb, ltb, ◌⊎◌, List, [], ◌∷◌, length, set, Some, None, Option, sym, refl, ap, ◌∙◌, subst, inl, inr, arith}
+use Rattle.std.proofs.Common.{◌≡◌, ℕ, ◌+◌, true, false, cond, eqb, ltb, List, [], ◌∷◌, length, Some, None, Option, sym, refl, ap, ◌∙◌, subst}
 use Rattle.std.proofs.lemmas.List.{get_or-set_same, get_or-set_other}
-use Rattle.std.proofs.lemmas.Bool.{cases_eq, and_parts, and_from, not-true, eqb-false}
+use Rattle.std.proofs.lemmas.Bool.{and_parts, and_from, not-true, eqb-false}
 use Rattle.slots.specs.Cells.{Cell}
 use Rattle.slots.specs.Cells.{Free, Live, Spent}
-use Rattle.slots.specs.Cells.{cell_at, is_live, retired, under, found}
+use Rattle.slots.specs.Cells.{cell_at, is_live, retired, under}
 use Rattle.slots.proofs.CellLaws.{never, live_within, found_live}
 use Rattle.lists.proofs.Chains.{some_none}
 use Rattle.model.specs.declared.ids.DefiningEntity.{DefiningEntity}
 use Rattle.model.specs.declared.ids.DefiningEntity.TheVariants as definer
-use Rattle.model.specs.declared.ids.Region.{Region}
 use Rattle.model.specs.declared.ids.OpId.{OpId}
 use Rattle.model.specs.declared.ids.Value.{Value}
 use Rattle.model.specs.Model.{Model, Operation, types_of, is_value, are_values, results_of, regions_of, find_op}

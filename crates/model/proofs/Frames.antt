@@ -1,10 +1,10 @@
 -- What stays where no live cell changes.
-use Rattle.std.proofs.Common.{◌≡◌, ℕ, ◌<◌, Bool, true, false, ◌&&◌, ltb, ◌≢◌, ◌⊎◌, List, [], ◌∷◌, length, Some, None, Option, sym, refl, ap, ◌∙◌, subst, inl, inr, arith}
+use Rattle.std.proofs.Common.{◌≡◌, ℕ, true, ltb, List, [], ◌∷◌, length, Some, None, Option, sym, refl, ap, ◌∙◌, arith}
 use Rattle.std.proofs.lemmas.Bool.{and_parts, and_from, ltb-true}
 use Rattle.slots.specs.Cells.{Cell}
-use Rattle.slots.specs.Cells.{Free, Live, Spent}
+use Rattle.slots.specs.Cells.{Live}
 use Rattle.slots.specs.Cells.{cell_at, found, is_live}
-use Rattle.slots.proofs.CellLaws.{never, found_live, live_found, live_is}
+use Rattle.slots.proofs.CellLaws.{found_live, live_found, live_is}
 use Rattle.model.specs.declared.ids.DefiningEntity.{DefiningEntity}
 use Rattle.model.specs.declared.ids.DefiningEntity.TheVariants as definer
 use Rattle.model.specs.declared.ids.Value.{Value}

@@ -1,5 +1,5 @@
 -- A store in which records changed in their places is sound.
-use Rattle.std.proofs.Common.{◌≡◌, ℕ, Bool, true, false, cond, ◌&&◌, eqb, ltb, ◌⊎◌, List, [], ◌∷◌, map, length, Some, None, Option, sym, refl, ap, ◌∙◌, subst, inl, inr, arith}
+use Rattle.std.proofs.Common.{◌≡◌, ℕ, true, false, cond, ◌&&◌, eqb, ltb, ◌⊎◌, List, [], ◌∷◌, map, length, Some, None, Option, sym, refl, ap, ◌∙◌, subst, inl, inr, arith}
 use Rattle.slots.specs.Cells.{Cell}
 use Rattle.slots.specs.Cells.{Free, Live, Spent}
 use Rattle.slots.specs.Cells.{cell_at, is_live, viewed, under, found}

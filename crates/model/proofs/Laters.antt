@@ -16,8 +16,8 @@ use Rattle.model.specs.declared.ids.DefiningEntity.{DefiningEntity}
 use Rattle.model.specs.declared.ids.DefiningEntity.TheVariants as definer
 use Rattle.model.specs.declared.ids.IRNode.{IRNode}
 use Rattle.model.specs.declared.ids.IRNode.TheVariants as node
-use Rattle.model.specs.Model.{Model, Operation, Block}
-use Rattle.model.specs.Calls.{opened, make_at, Usable, Made, next_op, create_at, link_at, unlink_at, with_ops, with_blocks, retyped, reargued, typed_at, reused, replace_all, drop_op}
+use Rattle.model.specs.Model.{Model}
+use Rattle.model.specs.Calls.{opened, make_at, Usable, Made, next_op, link_at, unlink_at, retyped, reargued, typed_at, reused, replace_all, drop_op}
 use Rattle.model.specs.declared.points.OpInsertionPoint.{OpInsertionPoint}
 use Rattle.model.specs.declared.points.BlockInsertionPoint.{BlockInsertionPoint}
 use Rattle.model.specs.Points.{inserted_in, created_in}

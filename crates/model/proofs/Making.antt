@@ -1,12 +1,11 @@
 -- A store with one operation more is sound.
-use Rattle.std.proofs.Common.{◌≡◌, ℕ, ◌<◌, Bool, true, false, ◌≢◌, ◌⊎◌, List, [], ◌∷◌, map, length, set, Some, None, Option, sym, refl, ap, ◌∙◌, subst, inl, inr, arith}
+use Rattle.std.proofs.Common.{◌≡◌, ℕ, ◌<◌, Bool, true, ◌⊎◌, List, map, length, Some, None, Option, sym, refl, ap, ◌∙◌, subst, inl, inr, arith}
 use mathlib.Core.Path.{fun_ext}
 use Rattle.std.proofs.lemmas.List.{get_or-set_same, get_or-set_other}
 use Rattle.std.proofs.lemmas.Bool.{cases_eq}
-use Rattle.slots.specs.Cells.{Cell}
-use Rattle.slots.specs.Cells.{Free, Live, Spent}
-use Rattle.slots.specs.Cells.{cell_at, is_free, is_live, next_of, found, holds}
-use Rattle.slots.proofs.CellLaws.{never, free_within, live_not_free, found_live, live_found, live_is}
+use Rattle.slots.specs.Cells.{Live, Spent}
+use Rattle.slots.specs.Cells.{cell_at, is_free, next_of, holds}
+use Rattle.slots.proofs.CellLaws.{free_within, live_not_free, live_found, live_is}
 use Rattle.lists.specs.Walk.{In, Apart}
 use Rattle.lists.proofs.Counts.{in_dec}
 use Rattle.model.specs.declared.ids.OpId.{OpId}
@@ -14,7 +13,7 @@ use Rattle.model.specs.declared.ids.RegionId.{RegionId}
 use Rattle.model.specs.declared.ids.Region.{Region}
 use Rattle.model.specs.declared.ids.Value.{Value}
 use Rattle.model.specs.Model.{Model, Operation, are_values, find_op, find_region, owner_of, regions_of, owner_slot, bind, above, up}
-use Rattle.model.specs.Calls.{next_op, next_ids, opened, make_at, Usable}
+use Rattle.model.specs.Calls.{next_op, next_ids, make_at, Usable}
 use Rattle.model.specs.Sound.{Among, Sound, Steps}
 use Rattle.model.proofs.Opens.{all_in, next_ids_slots, next_ids_in, next_ids_has, opened_other, opened_at}
 use Rattle.model.proofs.Frames.{Keeps, found_kept, values_kept, is_live_kept}

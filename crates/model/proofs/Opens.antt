@@ -1,15 +1,13 @@
 -- Regions that are opened one after the other.
-use Rattle.std.proofs.Common.{◌≡◌, ℕ, ◌+◌, ◌<◌, ◌≤◌, Bool, true, false, ◌≢◌, ◌⊎◌, List, [], ◌∷◌, ◌++◌, map, length, get_or, set, sym, refl, ap, ◌∙◌, subst, inl, inr, arith}
+use Rattle.std.proofs.Common.{◌≡◌, ℕ, ◌+◌, ◌<◌, Bool, true, ◌≢◌, ◌⊎◌, List, [], ◌∷◌, ◌++◌, map, length, set, sym, refl, ap, ◌∙◌, subst, inl, inr, arith}
 use Rattle.std.proofs.lemmas.List.{get_or-set_same, get_or-set_other, length-set, length_push}
 use Rattle.std.proofs.ByRecursion.{All-push}
-use Rattle.std.proofs.lemmas.Bool.{cases_eq}
 use Rattle.std.specs.List.{AllByRecursion as All}
 use Rattle.slots.specs.Cells.{Cell}
-use Rattle.slots.specs.Cells.{Free, Live, Spent}
+use Rattle.slots.specs.Cells.{Live, Spent}
 use Rattle.slots.specs.Cells.{cell_at, is_free, next_of}
 use Rattle.slots.proofs.CellLaws.{never, free_within}
 use Rattle.lists.specs.Walk.{In, Apart}
-use Rattle.lists.proofs.Counts.{in_dec, apart_insert}
 use Rattle.model.specs.declared.ids.OpId.{OpId}
 use Rattle.model.specs.declared.ids.RegionId.{RegionId}
 use Rattle.model.specs.declared.ids.Region.{Region}

@@ -5,10 +5,9 @@ use Rattle.std.specs.List.{flat_map}
 use Rattle.lists.specs.Walk.{In, Apart}
 use Rattle.lists.proofs.Chains.{some_none, some_some, in_left, in_right, in_cases}
 use Rattle.lists.proofs.Counts.{apart_insert}
-use Rattle.model.specs.declared.ids.Region.{Region}
 use Rattle.model.specs.declared.ids.IRNode.{IRNode}
 use Rattle.model.specs.declared.ids.IRNode.TheVariants as node
-use Rattle.model.specs.Model.{Model, Operation, above, up, op_id, block_id, region_id}
+use Rattle.model.specs.Model.{Model, above, up, op_id, block_id, region_id}
 use Rattle.model.specs.Walk.{slots_of_regions, Distinct, owner, Under}
 use Rattle.model.specs.Sound.{Sound, Among}
 use Rattle.model.specs.Erasing.{body_nodes, block_nodes, edge_nodes, region_nodes, op_nodes_by, op_nodes}

@@ -1,16 +1,14 @@
 -- Soundness has one proof at most, so that it can be taken out of a truncation.
-use Rattle.std.proofs.Common.{◌≡◌, ℕ, zero, suc, Bool, true, ◌⊎◌, List, [], ◌∷◌, map, Some, None, Option, sym, refl, ap, ◌∙◌, subst, inl, inr, arith}
+use Rattle.std.proofs.Common.{◌≡◌, ℕ, zero, suc, Bool, List, [], ◌∷◌, map, Some, None, Option, sym, refl, ap, ◌∙◌, subst, inl, inr, arith}
 use mathlib.Core.Logic.{∥∥₁_elim}
 use mathlib.Core.HLevel.{Π_prop, Σ_prop_path}
-use base.Stored.{Coded, Coded-set, coded_ℕ, coded_bool, coded_list, coded_via}
-use Rattle.slots.specs.Cells.{cell_at, Live}
+use base.Stored.{Coded-set, coded_ℕ, coded_bool, coded_list, coded_via}
 use Rattle.slots.proofs.CellLaws.{found_live}
 use Rattle.lists.specs.Walk.{In, Apart}
 use Rattle.lists.proofs.Chains.{some_none, some_some}
 use Rattle.lists.proofs.Props.{option_set, apart_prop, in_prop}
 use Rattle.model.specs.declared.ids.OpId.{OpId}
 use Rattle.model.specs.declared.ids.RegionId.{RegionId}
-use Rattle.model.specs.declared.ids.Region.{Region}
 use Rattle.model.specs.Model.{Model, Operation, find_op, regions_of}
 use Rattle.model.specs.Sound.{Among, Agree, Steps, Sound}
 

@@ -1,8 +1,8 @@
 -- A store in which an operation was taken out of its block is sound.
-use Rattle.std.proofs.Common.{◌≡◌, ℕ, zero, suc, ◌||◌, eqb, ◌⊎◌, List, Some, None, Option, sym, refl, ap, ◌∙◌, subst, inl, inr}
+use Rattle.std.proofs.Common.{◌≡◌, ℕ, zero, suc, ◌||◌, eqb, Some, None, Option, sym, refl, ap, ◌∙◌, inl, inr}
 use Rattle.std.proofs.lemmas.Bool.{cases_eq, eq-eqb}
 use Rattle.lists.proofs.Chains.{some_none}
-use Rattle.model.specs.Model.{Model, put, bind, above, up, inside, inside_by, whether}
+use Rattle.model.specs.Model.{Model, put, bind, above, up, inside_by, whether}
 use Rattle.model.specs.Calls.{unlink_at}
 use Rattle.model.specs.Sound.{Sound, Steps}
 use Rattle.model.proofs.Frames.{values_kept}

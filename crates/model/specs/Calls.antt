@@ -1,8 +1,8 @@
 -- What the calls of a store do to its meaning.
 use Rattle.std.specs.Prelude.{◌≡◌, ℕ, zero, suc, Bool, true, false, cond, not, ◌&&◌, ◌||◌, List, [], ◌∷◌, map, length, is_some, Some, None, Option, ◌==◌, nat_lt, slice_set}
 use Rattle.slots.specs.Cells.{Cell}
-use Rattle.slots.specs.Cells.{Free, Live, Spent}
-use Rattle.slots.specs.Cells.{cell_at, found, is_free, is_live, frees, next_of, viewed, retired}
+use Rattle.slots.specs.Cells.{Live}
+use Rattle.slots.specs.Cells.{cell_at, is_free, frees, next_of, viewed, retired}
 use Rattle.lists.specs.Walk.{Apart, without}
 use Rattle.std.specs.List.{AllByRecursion as All}
 use Rattle.model.specs.declared.ids.OpId.{OpId}

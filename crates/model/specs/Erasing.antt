@@ -6,7 +6,6 @@ use Rattle.slots.specs.Cells.{cell_at, holds, retired, viewed}
 use Rattle.lists.specs.Walk.{In, without}
 use Rattle.std.specs.List.{flat_map}
 use Rattle.model.specs.declared.ids.RegionId.{RegionId}
-use Rattle.model.specs.declared.ids.Region.{Region}
 use Rattle.model.specs.declared.ids.Value.{Value}
 use Rattle.model.specs.declared.ids.DefiningEntity.{DefiningEntity}
 use Rattle.model.specs.declared.ids.DefiningEntity.TheVariants as definer
@@ -14,7 +13,7 @@ use Rattle.model.specs.declared.ids.IRNode.{IRNode}
 use Rattle.model.specs.declared.ids.IRNode.TheVariants as node
 use Rattle.model.specs.declared.refusal.Refusal.{Refusal}
 use Rattle.model.specs.declared.refusal.Refusal.TheVariants.{NotLive, StillUsed}
-use Rattle.model.specs.Model.{Model, Operation, Block, put, find_op, find_block, find_region, owner_slot, op_id, block_id, region_id}
+use Rattle.model.specs.Model.{Model, Operation, put, find_op, find_block, find_region, owner_slot, op_id, block_id, region_id}
 use Rattle.model.specs.Calls.{with_ops, with_blocks, unlink_at, drop_op}
 use Rattle.model.specs.Sound.{Among}
 use Rattle.model.specs.Walk.{Distinct, slots_of_regions}

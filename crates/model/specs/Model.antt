@@ -1,7 +1,7 @@
 -- What a store means.
 use Rattle.std.specs.Prelude.{ℕ, zero, suc, Bool, true, false, cond, ◌&&◌, ◌||◌, List, [], ◌∷◌, length, replicate, Some, None, Option, ◌==◌, nat_lt}
 use Rattle.slots.specs.Cells.{Cell}
-use Rattle.slots.specs.Cells.{Free, Live, Spent}
+use Rattle.slots.specs.Cells.{Free}
 use Rattle.slots.specs.Cells.{cell_at, found, holds, live_of}
 use Rattle.std.specs.Option.{option_map}
 use Rattle.std.specs.List.{slice_get}

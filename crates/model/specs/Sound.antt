@@ -1,10 +1,8 @@
 -- What holds of every store.
-use Rattle.std.specs.Prelude.{◌≡◌, ℕ, zero, suc, Bool, true, false, ◌⊎◌, List, [], ◌∷◌, map, is_some, Some, None, Option}
-use Rattle.slots.specs.Cells.{Cell}
+use Rattle.std.specs.Prelude.{◌≡◌, ℕ, zero, suc, true, ◌⊎◌, List, [], ◌∷◌, map, is_some, Some, None, Option}
 use Rattle.slots.specs.Cells.{Live}
 use Rattle.slots.specs.Cells.{cell_at, is_live}
 use Rattle.lists.specs.Walk.{In, Apart}
-use Rattle.model.specs.declared.ids.OpId.{OpId}
 use Rattle.model.specs.declared.ids.RegionId.{RegionId}
 use Rattle.model.specs.declared.ids.Region.{Region}
 use Rattle.model.specs.Model.{Model, Operation, are_values, find_op, find_region, owner_of, regions_of, up}

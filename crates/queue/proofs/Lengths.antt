@@ -1,5 +1,5 @@
 -- How many elements a queue holds.
-use Rattle.std.proofs.Common.{◌≡◌, ◌-◌, List, [], length, take, ap, arith, length-take-le}
+use Rattle.std.proofs.Common.{◌≡◌, List, [], length, take, ap, arith, length-take-le}
 use Rattle.queue.specs.declared.queue.Queue.{Queue}
 use Rattle.queue.specs.Contents.{turned, contents, Within}
 use Rattle.queue.proofs.Turns.{length_turned}

@@ -1,5 +1,5 @@
 -- What the rules note of operations agrees with what the law says of their marks.
-use Rattle.std.proofs.Common.{◌≡◌, ℕ, ◌+◌, Bool, true, false, cond, eqb, ◌⊎◌, List, [], ◌∷◌, ◌++◌, is_some, Some, None, Option, sym, refl, ap, ◌∙◌, subst, inl, inr, append-nil}
+use Rattle.std.proofs.Common.{◌≡◌, ℕ, Bool, true, false, cond, eqb, ◌⊎◌, List, [], ◌∷◌, ◌++◌, is_some, Some, None, Option, sym, refl, ap, ◌∙◌, subst, inl, inr, append-nil}
 use Rattle.std.proofs.lemmas.Bool.{cases_Bool, both_ways}
 use Rattle.model.specs.declared.ids.OpId.{OpId}
 use Rattle.model.specs.declared.ids.Value.{Value}
@@ -16,7 +16,6 @@ use Rattle.calls.specs.Perform.{perform, settle, type_now}
 use Rattle.calls.specs.After.{answer}
 use Rattle.law.specs.Lists.{In}
 use Rattle.law.specs.Machine.{unmarked, queued, aside, asking, put, queue_all, Agree, kept, dues, during}
-use Rattle.law.specs.Machine as machine
 use Rattle.law.proofs.Lists.{in_cases, in_left, in_right}
 use Rattle.law.proofs.Marks.{cases_op, op_dec, put_at, put_off, queue_in, queue_out, kept_live, kept_dead, in_dues}
 use Rattle.rules.specs.declared.interface.OpState.TheVariants as state
@@ -25,7 +24,7 @@ use Rattle.rules.specs.declared.interface.StateEntry.{StateEntry}
 use Rattle.rules.specs.States.{moved}
 use Rattle.rules.specs.Meaning.{Meaning}
 use Rattle.rules.specs.Setting.{Env, real, inserted, ops_among}
-use Rattle.rules.specs.Driver.{World, model_of, kept_state, noted, mark_of, marks_of, mark_all_erased}
+use Rattle.rules.specs.Driver.{model_of, kept_state, noted, mark_of, marks_of, mark_all_erased}
 use Rattle.rules.specs.Rules.{noted_all}
 use Rattle.rules.proofs.Reals.{laws}
 use Rattle.rules.proofs.Marking.{Alive, Known, noted_at, noted_off, known_noted, asking_queued}

@@ -9,7 +9,6 @@ use Rattle.model.specs.Model.{Model, find_op}
 use Rattle.calls.specs.declared.events.RecorderEvent.{RecorderEvent}
 use Rattle.law.specs.Machine.{Mark, unmarked, queued, asking, is_unmarked, met, asked, queues, Agree, put, ask, askable, newly, queue_each, mark_new, lay_new, mark_all, lay_all, meet_all}
 use Rattle.law.proofs.Marks.{cases_op, put_at, put_off, newly_parts}
-use Rattle.rules.specs.declared.interface.OpState.TheVariants as state
 use Rattle.rules.specs.declared.interface.OpEvent.TheVariants as happens
 use Rattle.rules.specs.declared.interface.StateEntry.{StateEntry}
 use Rattle.rules.specs.declared.interface.Fault.{Fault}

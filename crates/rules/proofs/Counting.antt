@@ -1,5 +1,5 @@
 -- The driver counts the different operations that were ever queued.
-use Rattle.std.proofs.Common.{◌≡◌, ℕ, ◌+◌, true, false, cond, List, [], ◌∷◌, ◌++◌, length, Some, None, sym, refl, ap, ◌∙◌, subst, inl, inr, arith}
+use Rattle.std.proofs.Common.{◌≡◌, ℕ, true, false, cond, List, [], ◌∷◌, ◌++◌, length, Some, None, sym, refl, ap, ◌∙◌, subst, inl, inr, arith}
 use Rattle.std.proofs.lemmas.Bool.{cases_Bool, cond-true, cond-false}
 use Rattle.model.specs.declared.ids.OpId.{OpId}
 use Rattle.law.specs.Lists.{add_all}
@@ -10,7 +10,6 @@ use Rattle.law.proofs.Marks.{un_q, is_unmarked_lem, cases_op, put_at, put_off, k
 use Rattle.law.proofs.Moments.{ever_append, wait_queues, rewrite_queues}
 use Rattle.law.proofs.Once.{good, marked}
 use Rattle.law.proofs.Views.{count_wait, count_rewrite}
-use Rattle.rules.specs.declared.interface.OpState.TheVariants as state
 use Rattle.rules.specs.Meaning.{Meaning}
 use Rattle.rules.specs.Setting.{Env, real, same_op, definers_in, inserted, ops_among}
 use Rattle.rules.specs.Driver.{World, model_of, mark_of, marks_of}

@@ -1,5 +1,5 @@
 -- Slots, and the cells that they are.
-use Rattle.std.proofs.Common.{◌≡◌, ℕ, zero, suc, ◌+◌, ◌<◌, ◌≤◌, Bool, true, false, cond, eqb, ltb, List, [], ◌∷◌, map, length, get_or, set, is_some, Some, None, Option, sym, refl, ap, ◌∙◌, arith}
+use Rattle.std.proofs.Common.{◌≡◌, ℕ, zero, suc, ◌+◌, ◌<◌, ◌≤◌, Bool, true, false, cond, eqb, ltb, List, [], ◌∷◌, map, length, get_or, set, is_some, Some, None, sym, refl, ap, ◌∙◌, arith}
 use Rattle.std.proofs.lemmas.List.{get_or-map, get_or_past, map-set, length-map}
 use Rattle.slots.specs.Cells.{Cell, Free, Live, Spent, cell_at, is_free, is_live, next_of, live_of, holds, under, retired, viewed, stated, bare, cell_of, state_at}
 use Rattle.slots.proofs.CellLaws.{never, free_within, cell_at_viewed}

@@ -1,25 +1,23 @@
 -- What the tables of every store allow.
-use Rattle.std.proofs.Common.{◌≡◌, ℕ, ◌<◌, ◌≤◌, true, List, [], ◌∷◌, length, get_or, is_some, Some, None, sym, refl, ap, ◌∙◌, subst, arith}
+use Rattle.std.proofs.Common.{◌≡◌, ℕ, ◌<◌, ◌≤◌, true, List, length, get_or, is_some, None, sym, ap, ◌∙◌, subst, arith}
 use mathlib.Core.Logic.{∥∥₁_elim, ∥∥₁_map}
 use base.Stored.{Coded-set, coded_ℕ}
 use Rattle.std.proofs.lemmas.List.{length-map}
 use Rattle.model.specs.Sound.{Sound}
 use Rattle.model.proofs.Props.{sound}
 use native.Mathlib.Bridge.{le_prop}
-use Rattle.slots.specs.Cells.{cell_at, is_free, is_live, found, cells, viewed}
+use Rattle.slots.specs.Cells.{cell_at, is_free, is_live, cells, viewed}
 use Rattle.slots.proofs.CellLaws.{free_within, live_within, found_is_live, cell_at_viewed, free_viewed, some_viewed}
 use Rattle.lists.specs.Lists.{nodes, containers, home}
 use Rattle.lists.proofs.Props.{option_set}
 use Rattle.model.specs.declared.ids.OpId.{OpId}
-use Rattle.model.specs.declared.ids.BlockId.{BlockId}
-use Rattle.model.specs.declared.ids.RegionId.{RegionId}
 use Rattle.model.specs.declared.ids.IRNode.{IRNode}
-use Rattle.model.specs.Model.{find_op, find_block, find_region}
+use Rattle.model.specs.Model.{find_op}
 use Rattle.model.specs.Erasing.{is_node, part_of, Closed, PartListed}
 use Rattle.model.proofs.Closing.{part_closed, part_few}
 use Rattle.model.proofs.Creating.{free_unplaced}
 use Rattle.tables.specs.declared.tables.Tables.{Tables}
-use Rattle.tables.specs.View.{view, view_op, view_block, sizes, Good}
+use Rattle.tables.specs.View.{view, view_op, view_block, Good}
 
 module _ (t : Tables) (g : ∥ Good t ∥₁) where
   pub sound_of : Sound (view t)

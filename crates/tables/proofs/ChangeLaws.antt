@@ -1,5 +1,5 @@
 -- A record that is lent, and changed in its place.
-use Rattle.std.proofs.Common.{◌≡◌, ℕ, ◌<◌, ◌≤◌, List, map, length, get_or, set, vec_items, sym, refl, ap, ◌∙◌, arith}
+use Rattle.std.proofs.Common.{◌≡◌, ℕ, ◌<◌, ◌≤◌, map, length, get_or, set, vec_items, sym, refl, ap, ◌∙◌, arith}
 use Rattle.std.proofs.lemmas.List.{length-map, length-set, set_past}
 use Rattle.slots.specs.declared.table.Slot.{Slot}
 use Rattle.slots.specs.declared.table.Table.{Table}

@@ -1,10 +1,9 @@
 -- What a change of the lists does to the meaning of the tables.
-use Rattle.std.proofs.Common.{◌≡◌, ℕ, ◌≤◌, true, List, [], ◌∷◌, length, is_some, Some, None, vec_items, Option, sym, refl, ap, ◌∙◌, subst, inl, inr, arith}
+use Rattle.std.proofs.Common.{◌≡◌, ℕ, ◌≤◌, true, List, [], ◌∷◌, length, is_some, Some, None, vec_items, Option, sym, refl, ap, ◌∙◌, inl, inr, arith}
 use mathlib.Core.Path.{fun_ext}
 use Rattle.slots.specs.Cells.{cells}
 use Rattle.lists.specs.Walk.{without}
 use Rattle.lists.specs.Lists.{containers}
-use Rattle.model.specs.Model as model
 use Rattle.model.specs.Calls.{unlink_at}
 use Rattle.model.specs.declared.points.OpInsertionPoint.{OpInsertionPoint}
 use Rattle.model.specs.Points.{block_at, placed_at, inserted_in, inserted_at}

@@ -1,15 +1,10 @@
 -- What making an operation does to the tables.
-use Rattle.std.proofs.Common.{◌≡◌, ℕ, List, [], ◌∷◌, map, length, set, sym, refl, ap, ◌∙◌, subst}
+use Rattle.std.proofs.Common.{◌≡◌, ℕ, List, map, set, sym, ap, ◌∙◌}
 use Rattle.std.proofs.lemmas.List.{map-set}
 use Rattle.slots.specs.Cells.{Cell}
-use Rattle.slots.specs.Cells.{Free, Live, Spent}
+use Rattle.slots.specs.Cells.{Free, Live}
 use Rattle.slots.specs.Cells.{cell_at, viewed, next_of}
 use Rattle.slots.proofs.CellLaws.{cell_at_viewed}
-use Rattle.row.specs.Items.{row_items}
-use Rattle.model.specs.declared.ids.RegionId.{RegionId}
-use Rattle.model.specs.Model as model
-use Rattle.tables.specs.declared.records.Operation.{Operation}
-use Rattle.tables.specs.View.{view_op}
 
 -- a cell is made live
 module _ {X Y : Type 0} (f : X → Y) where

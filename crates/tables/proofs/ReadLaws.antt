@@ -1,15 +1,8 @@
 -- What is read of the tables.
-use Rattle.std.proofs.Common.{◌≡◌, ℕ, zero, suc, ◌+◌, ◌<◌, ◌≤◌, Bool, true, false, cond, ◌&&◌, ltb, List, [], ◌∷◌, map, length, get_or, drop, is_some, Some, None, Option, sym, refl, ap, ◌∙◌, subst, inl, inr, arith, MatchOption}
+use Rattle.std.proofs.Common.{◌≡◌, ℕ, zero, suc, ◌+◌, ◌<◌, Bool, ◌&&◌, ltb, List, [], ◌∷◌, length, get_or, drop, is_some, Some, None, Option, sym, ap, ◌∙◌, subst, inl, inr, arith, MatchOption}
 use Rattle.std.proofs.lemmas.List.{at_drop_more}
 use Rattle.std.proofs.lemmas.Bool.{lt-ltb, le-ltb, cases_lt}
-use Rattle.std.specs.Option.{option_map}
-use Rattle.slots.specs.Cells.{Cell}
-use Rattle.slots.specs.Cells.{found, viewed}
-use Rattle.slots.proofs.CellLaws.{found_viewed}
-use Rattle.model.specs.declared.ids.OpId.{OpId}
-use Rattle.model.specs.declared.ids.BlockId.{BlockId}
 use Rattle.model.specs.declared.ids.Value.{Value}
-use Rattle.model.specs.declared.ids.DefiningEntity.TheVariants as definer
 use Rattle.model.specs.Model as model
 use Rattle.std.specs.List.{slice_get}
 

@@ -1,4 +1,4 @@
-use Rattle.std.proofs.Common.{◌≡◌, eqb, vec_items, sym, refl, ap, ◌∙◌, arith}
+use Rattle.std.proofs.Common.{eqb, vec_items, refl, ap, arith}
 use Rattle.row.specs.Items.{row_items}
 use Rattle.slots.specs.Cells.{cell_of}
 use Rattle.std.proofs.lemmas.List.{length-map}

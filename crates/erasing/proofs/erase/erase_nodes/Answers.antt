@@ -1,4 +1,4 @@
-use Rattle.std.proofs.Common.{◌≡◌, get_or, sym, refl, ap, ◌∙◌}
+use Rattle.std.proofs.Common.{get_or, sym, refl, ap, ◌∙◌}
 use Rattle.model.specs.declared.ids.IRNode.TheVariants as node
 use Rattle.model.specs.Erasing.{erase_node}
 use Rattle.model.proofs.EraseSteps.{erased_none, erase_more, erase_all}

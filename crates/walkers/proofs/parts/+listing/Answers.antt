@@ -1,8 +1,7 @@
-use Rattle.std.proofs.Common.{◌≡◌, suc, ◌+◌, ◌-◌, ◌*◌, ◌<◌, ◌≤◌, [], ◌∷◌, ◌++◌, reverse, length, get_or, take, sym, refl, ap, ◌∙◌, arith, length-append}
-use Rattle.std.proofs.lemmas.List.{append-nil, take_all}
+use Rattle.std.proofs.Common.{◌≡◌, ◌+◌, ◌-◌, ◌*◌, ◌<◌, ◌≤◌, [], ◌∷◌, ◌++◌, reverse, length, get_or, sym, ap, ◌∙◌, arith, length-append}
+use Rattle.std.proofs.lemmas.List.{append-nil}
 use Rattle.std.specs.List.{flat_map}
 use Rattle.model.specs.declared.ids.OpId.{OpId}
-use Rattle.model.specs.declared.ids.RegionId.{RegionId}
 use Rattle.model.specs.declared.ids.IRNode.TheVariants as node
 use Rattle.model.specs.Model.{op_id, prev_slot, prev_block_slot}
 use Rattle.model.specs.Walk.{slots_of_regions}

@@ -1,4 +1,4 @@
-use Rattle.std.proofs.Common.{◌≡◌, ℕ, ◌+◌, ◌*◌, ◌≤◌, List, ◌++◌, reverse, length, take}
+use Rattle.std.proofs.Common.{◌≡◌, ◌+◌, ◌*◌, ◌≤◌, ◌++◌, reverse, length, take}
 use Rattle.std.specs.List.{flat_map}
 use Rattle.model.specs.Walk.{slots_of_regions}
 use Rattle.model.specs.Erasing.{body_nodes, region_nodes, op_nodes}

@@ -1,4 +1,4 @@
-use Rattle.std.proofs.Common.{◌≡◌, [], ◌∷◌, ◌++◌, length, sym, refl, ap, ◌∙◌, arith, length-append}
+use Rattle.std.proofs.Common.{◌≡◌, [], ◌∷◌, ◌++◌, ap, ◌∙◌, arith}
 use Rattle.model.specs.declared.ids.BlockId.{BlockId}
 use Rattle.model.specs.declared.ids.IRNode.TheVariants as node
 use Rattle.model.specs.Model.{block_id}

@@ -1,4 +1,4 @@
-use Rattle.std.proofs.Common.{vec_items, ap, ◌∙◌}
+use Rattle.std.proofs.Common.{ap, ◌∙◌}
 use Rattle.lists.proofs.Edits.{next_read}
 use Rattle.lists.proofs.Props.{sound}
 use Rattle.lists.proofs.lists.LinkedLists.get_next.Goals as goal

@@ -1,4 +1,4 @@
-use Rattle.std.proofs.Common.{vec_items, ap, ◌∙◌}
+use Rattle.std.proofs.Common.{ap, ◌∙◌}
 use Rattle.lists.proofs.Edits.{prev_read}
 use Rattle.lists.proofs.Props.{sound}
 use Rattle.lists.proofs.lists.LinkedLists.get_prev.Goals as goal

@@ -1,4 +1,4 @@
-use Rattle.std.proofs.Common.{◌≡◌, sym, ap, ◌∙◌, subst}
+use Rattle.std.proofs.Common.{sym, ap, ◌∙◌}
 use Rattle.lists.proofs.Edits.{homed_some, place_next, insert_after_lem}
 use Rattle.lists.proofs.Props.{sound}
 use Rattle.lists.proofs.lists.LinkedLists.insert_after.Goals as goal

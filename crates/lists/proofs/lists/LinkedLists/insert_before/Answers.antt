@@ -1,4 +1,4 @@
-use Rattle.std.proofs.Common.{◌≡◌, sym, ap, ◌∙◌, subst}
+use Rattle.std.proofs.Common.{sym, ap, ◌∙◌}
 use Rattle.lists.proofs.Edits.{homed_some, place_prev, insert_before_lem}
 use Rattle.lists.proofs.Props.{sound}
 use Rattle.lists.proofs.lists.LinkedLists.insert_before.Goals as goal

@@ -1,4 +1,4 @@
-use Rattle.std.proofs.Common.{◌≡◌, ◌-◌, ◌<◌, ◌≤◌, length, set, refl, ap, ◌∙◌, arith, length-set, rules}
+use Rattle.std.proofs.Common.{◌≡◌, ◌<◌, ◌≤◌, length, set, refl, ap, ◌∙◌, arith, length-set, rules}
 use Rattle.queue.specs.Contents.{turned}
 use Rattle.queue.proofs.Turns.{set_high, set_low, put, length_turned}
 use Rattle.queue.proofs.queue.Queue.push_back.Goals as goal

@@ -1,4 +1,4 @@
-use Rattle.std.proofs.Common.{◌≡◌, ◌+◌, ◌-◌, ◌<◌, ◌∷◌, length, take, sym, refl, ap, ◌∙◌, arith, length-set, rules}
+use Rattle.std.proofs.Common.{◌≡◌, ◌+◌, ◌<◌, ◌∷◌, length, take, sym, refl, ap, ◌∙◌, arith, length-set, rules}
 use Rattle.queue.specs.Contents.{turned}
 use Rattle.queue.proofs.Turns.{push, round}
 use Rattle.queue.proofs.queue.Queue.push_front.Goals as goal

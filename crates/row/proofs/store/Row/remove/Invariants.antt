@@ -1,4 +1,4 @@
-use Rattle.std.proofs.Common.{◌≡◌, suc, ◌-◌, ◌<◌, ◌++◌, length, take, drop}
+use Rattle.std.proofs.Common.{◌≡◌, suc, ◌-◌, ◌++◌, length, take, drop}
 use Rattle.row.proofs.store.Row.remove.Given as goal
 
 abbrev pub invariant-loop-j : goal.invariant-loop-j

@@ -1,4 +1,4 @@
-use Rattle.std.proofs.Common.{◌≡◌, ◌+◌, drop}
+use Rattle.std.proofs.Common.{◌≡◌, drop}
 use Rattle.slots.specs.Cells.{cells, frees}
 use Rattle.slots.proofs.table.Table.free_slot.Given as goal
 

@@ -1,4 +1,4 @@
-use Rattle.std.proofs.Common.{cond, Some, None, vec_items, sym, refl, ap, ◌∙◌, arith}
+use Rattle.std.proofs.Common.{cond, Some, None, vec_items, sym, ap, ◌∙◌, arith}
 use Rattle.slots.specs.Cells.{under}
 use Rattle.slots.proofs.SlotLaws.{cell_read, cell_past, under_bare}
 use Rattle.slots.proofs.table.Table.get.Goals as goal

@@ -1,4 +1,4 @@
-use Rattle.std.proofs.Common.{◌≡◌, [], ◌∷◌, ◌++◌, map, length, replicate, vec_items, sym, refl, ap, ◌∙◌, arith}
+use Rattle.std.proofs.Common.{◌≡◌, [], ◌∷◌, ◌++◌, map, length, replicate, vec_items, ap, ◌∙◌, arith}
 use Rattle.std.proofs.lemmas.List.{replicate_more, length-replicate, length-map, map-append}
 use Rattle.slots.specs.Cells.{Free, cell_of}
 use Rattle.slots.specs.declared.table.State.TheVariants as state

@@ -1,4 +1,4 @@
-use Rattle.std.proofs.Common.{◌≡◌, true, vec_items, sym, refl, ap, ◌∙◌, arith}
+use Rattle.std.proofs.Common.{vec_items, sym, ap, ◌∙◌, arith}
 use Rattle.std.proofs.lemmas.List.{map-set}
 use Rattle.slots.specs.Cells.{Free, cell_of, is_free}
 use Rattle.slots.proofs.SlotLaws.{cell_read, free_slot_within, next_free}

@@ -1,4 +1,4 @@
-use Rattle.std.proofs.Common.{vec_items, sym, ap, ◌∙◌, arith}
+use Rattle.std.proofs.Common.{vec_items, sym, arith}
 use Rattle.slots.proofs.SlotLaws.{state_read, state_past}
 use Rattle.slots.proofs.table.Table.state.Goals as goal
 

@@ -1,4 +1,4 @@
-use Rattle.std.proofs.Common.{◌≡◌, sym, refl, ap, ◌∙◌, subst}
+use Rattle.std.proofs.Common.{sym, subst}
 use Rattle.model.specs.Later.{Later}
 use Rattle.model.specs.Points.{region_at}
 use Rattle.model.proofs.Laters.{create_later}

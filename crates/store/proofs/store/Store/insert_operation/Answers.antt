@@ -1,4 +1,4 @@
-use Rattle.std.proofs.Common.{◌≡◌, sym, refl, ap, ◌∙◌, subst}
+use Rattle.std.proofs.Common.{sym, refl, subst}
 use Rattle.model.specs.Later.{Later}
 use Rattle.model.specs.Points.{block_at}
 use Rattle.model.proofs.Laters.{insert_later, later_refl}

@@ -1,4 +1,4 @@
-use Rattle.std.proofs.Common.{◌≡◌, is_some, sym, refl, ap, ◌∙◌, subst}
+use Rattle.std.proofs.Common.{is_some, sym, ap, ◌∙◌, subst}
 use mathlib.Core.Logic.{∥∥₁_map}
 use Rattle.model.specs.Sound.{Sound}
 use Rattle.model.proofs.Placing.{insert_allowed, insert_sound, point_block}

@@ -1,6 +1,5 @@
-use Rattle.std.proofs.Common.{◌≡◌, true, ◌++◌, length, sym, refl, ap, ◌∙◌, subst, arith}
-use Rattle.model.specs.Erasing.{is_node, part_of}
-use Rattle.walkers.specs.Listed.{nodes_in}
+use Rattle.std.proofs.Common.{◌++◌, length, sym, refl, ap, ◌∙◌, arith}
+use Rattle.model.specs.Erasing.{part_of}
 use Rattle.tables.specs.View.{view}
 use Rattle.store.proofs.GoodLaws.{sound_of, part_listed}
 use Rattle.store.proofs.store.Store.list_part.Goals as goal

@@ -1,8 +1,7 @@
-use Rattle.std.proofs.Common.{◌≡◌, ◌++◌, length, is_some, sym, refl, ap, ◌∙◌, arith}
+use Rattle.std.proofs.Common.{◌++◌, length, is_some, sym, refl, ap, ◌∙◌, arith}
 use Rattle.slots.proofs.CellLaws.{some_mapped}
 use Rattle.model.specs.Walk.{walk}
 use Rattle.model.proofs.Meeting.{walked}
-use Rattle.walkers.specs.Listed.{nodes_in}
 use Rattle.tables.specs.View.{view}
 use Rattle.store.proofs.GoodLaws.{sound_of, ops_sized, blocks_sized}
 use Rattle.store.proofs.store.Store.walk.Goals as goal

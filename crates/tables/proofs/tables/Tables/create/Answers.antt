@@ -1,6 +1,6 @@
-use Rattle.std.proofs.Common.{◌≡◌, [], ◌∷◌, map, length, set, sym, refl, ap, ◌∙◌, ap₂}
+use Rattle.std.proofs.Common.{[], ◌∷◌, length, sym, ap, ◌∙◌}
 use Rattle.std.proofs.lemmas.List.{length-set}
-use Rattle.slots.specs.Cells.{cell_at, next_of, viewed, cells}
+use Rattle.slots.specs.Cells.{next_of, viewed, cells}
 use Rattle.slots.proofs.CellLaws.{cell_at_viewed}
 use Rattle.lists.specs.Lists.{nodes, containers, members, home}
 use Rattle.row.specs.Items.{row_items}

@@ -1,13 +1,12 @@
-use Rattle.std.proofs.Common.{◌≡◌, [], ◌∷◌, map, length, set, sym, refl, ap, ◌∙◌, ap₂}
+use Rattle.std.proofs.Common.{[], ◌∷◌, map, length, set, sym, ap, ◌∙◌, ap₂}
 use Rattle.std.proofs.lemmas.List.{length-set}
 use Rattle.slots.specs.Cells.{cell_at, is_free, next_of, viewed, Live, cells}
 use Rattle.row.specs.Items.{row_items}
 use Rattle.slots.proofs.CellLaws.{cell_at_viewed, free_viewed, next_viewed}
 use Rattle.lists.specs.Lists.{nodes, containers, members, home}
-use Rattle.model.specs.Model.{Model}
-use Rattle.model.specs.Calls.{opened, next_ids}
+use Rattle.model.specs.Calls.{opened}
 use Rattle.model.proofs.Opens.{length_opened}
-use Rattle.tables.specs.View.{view, view_op, block_cells}
+use Rattle.tables.specs.View.{view_op, block_cells}
 use Rattle.tables.proofs.MakeLaws.{view_occupied}
 use Rattle.tables.proofs.tables.Tables.make.Goals as goal
 

@@ -1,9 +1,8 @@
-use Rattle.std.proofs.Common.{◌≡◌, [], ◌∷◌, map, length, sym, refl, ap, ◌∙◌}
+use Rattle.std.proofs.Common.{[], ◌∷◌, map, length, ap, ◌∙◌}
 use mathlib.Core.Path.{fun_ext}
 use Rattle.std.proofs.lemmas.List.{length-replicate}
 use Rattle.slots.specs.Cells.{viewed}
 use Rattle.slots.proofs.CellLaws.{viewed_unused}
-use Rattle.model.specs.Model.{Model}
 use Rattle.tables.specs.View.{view_op, view_block}
 use Rattle.tables.proofs.tables.Tables.new.Goals as goal
 
