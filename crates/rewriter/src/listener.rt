@@ -1,8 +1,8 @@
 //! Who is told of the changes.
-ghost use Rattle.std.specs.Prelude.{◌≡◌, ◌≤◌, Bool, true, false, List, [], ◌∷◌, ◌++◌, length, IfOk, vec_capacity};
+ghost use Rattle.std.specs.Prelude.{◌≡◌, ◌≤◌, Bool, true, false, List, [], ◌∷◌, ◌++◌, length, IfOk, vec_capacity, refl};
 ghost use Rattle.calls.specs.World.{kept, fits};
 ghost use Rattle.calls.specs.declared.events.RecorderEvent.{RecorderEvent};
-ghost use Rattle.std.proofs.Common.{rules, arith};
+ghost use Rattle.calls.proofs.Outcomes.{fits_none};
 
 use calls::events::{MAX_RECORDS, RecorderEvent};
 use std::alloc::{AllocError, Global};
@@ -64,7 +64,7 @@ impl RewriteListener for Recorder {
 
     ghost keeps = { true };
 
-    ghost within = { first_of (Prim.search rules, Prim.grind (arith, Self.row.coded.inj)) };
+    ghost within = { λ s. fits_none true s.events.items s.within };
 
     fn takes(&self, count: usize) -> bool {
         count <= MAX_RECORDS - self.events.len()
@@ -84,7 +84,7 @@ impl RewriteListener for DummyListener {
 
     ghost keeps = { false };
 
-    ghost within = { Prim.search rules };
+    ghost within = { λ _. refl };
 
     fn takes(&self, _count: usize) -> bool {
         true
