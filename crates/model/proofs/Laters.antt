@@ -2,7 +2,7 @@
 use Rattle.std.proofs.Common.{◌≡◌, ℕ, Bool, true, false, cond, eqb, ◌⊎◌, List, map, length, set, is_some, Some, None, Option, sym, refl, ◌∙◌, subst, inl, inr}
 use Rattle.std.proofs.lemmas.List.{get_or-set_same, get_or-set_other, set_past, length-set, length-map}
 use Rattle.std.proofs.lemmas.Bool.{cases_eq, cases_lt, cases_Bool}
-use Rattle.std.specs.List.{AllByRecursion as All}
+use Rattle.std.specs.List.{AllByRecursion}
 use Rattle.slots.specs.Cells.{Cell}
 use Rattle.slots.specs.Cells.{Free, Live, Spent}
 use Rattle.slots.specs.Cells.{cell_at, is_free, next_of, retired, under, viewed}
@@ -110,7 +110,7 @@ module _ {X : Type 0} where
       at true c = onward_retired c
       at false c = onward_viewed k c
 
-pub moves_opened : (cs : List (Cell Region)) (o : OpId) (rs : List ℕ) (gs : List Bool) → All (λ r. is_free (cell_at cs r) ≡ true) rs → Apart rs → length rs ≡ length gs → Moves cs (opened cs o rs gs)
+pub moves_opened : (cs : List (Cell Region)) (o : OpId) (rs : List ℕ) (gs : List Bool) → AllByRecursion (λ r. is_free (cell_at cs r) ≡ true) rs → Apart rs → length rs ≡ length gs → Moves cs (opened cs o rs gs)
 moves_opened cs o rs gs free apart count = record {
   cell = λ s. elim (in_dec s rs) [
     | inl i ↦ let h = opened_at o cs rs gs s count apart (λ r j. free_within cs r (usable r j)) i in subst (Onward (cell_at cs s)) (sym h.1) (onward_occupied (cell_at cs s) _ (usable s i))

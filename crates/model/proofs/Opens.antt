@@ -2,7 +2,7 @@
 use Rattle.std.proofs.Common.{◌≡◌, ℕ, ◌+◌, ◌<◌, Bool, true, ◌≢◌, ◌⊎◌, List, [], ◌∷◌, ◌++◌, map, length, set, sym, refl, ap, ◌∙◌, subst, inl, inr, arith}
 use Rattle.std.proofs.lemmas.List.{get_or-set_same, get_or-set_other, length-set, length_push}
 use Rattle.std.proofs.ByRecursion.{All-push}
-use Rattle.std.specs.List.{AllByRecursion as All}
+use Rattle.std.specs.List.{AllByRecursion}
 use Rattle.slots.specs.Cells.{Cell}
 use Rattle.slots.specs.Cells.{Live, Spent}
 use Rattle.slots.specs.Cells.{cell_at, is_free, next_of}
@@ -14,7 +14,7 @@ use Rattle.model.specs.declared.ids.Region.{Region}
 use Rattle.model.specs.Calls.{next_ids, opened, Opened}
 use Rattle.model.specs.Sound.{Among}
 
-pub all_in : (P : ℕ → Type 0) (rs : List ℕ) → All P rs → (r : ℕ) → In r rs → P r
+pub all_in : (P : ℕ → Type 0) (rs : List ℕ) → AllByRecursion P rs → (r : ℕ) → In r rs → P r
 all_in P [] h r i = absurd i
 all_in P (q ∷ rs) h r (inl e) = subst P (sym e) h.0
 all_in P (q ∷ rs) h r (inr i) = all_in P rs h.1 r i

@@ -4,7 +4,7 @@ use Rattle.slots.specs.Cells.{Cell}
 use Rattle.slots.specs.Cells.{Live}
 use Rattle.slots.specs.Cells.{cell_at, is_free, frees, next_of, viewed, retired}
 use Rattle.lists.specs.Walk.{Apart, without}
-use Rattle.std.specs.List.{AllByRecursion as All}
+use Rattle.std.specs.List.{AllByRecursion}
 use Rattle.model.specs.declared.ids.OpId.{OpId}
 use Rattle.model.specs.declared.ids.BlockId.{BlockId}
 use Rattle.model.specs.declared.ids.RegionId.{RegionId}
@@ -33,7 +33,7 @@ opened cs o (r ∷ rs) (g ∷ gs) = opened (slice_set cs r (Live (next_of (cell_
 -- from cs to ds, a region was opened for each mark, under these identities
 pub record Opened (cs ds : List (Cell Region)) (o : OpId) (gs : List Bool) (ids : List RegionId) : Type 0 where
   pub slots : List ℕ
-  pub free : All (λ r. is_free (cell_at cs r) ≡ true) slots
+  pub free : AllByRecursion (λ r. is_free (cell_at cs r) ≡ true) slots
   pub apart : Apart slots
   pub count : length slots ≡ length gs
   pub after : ds ≡ opened cs o slots gs
@@ -60,7 +60,7 @@ make_refusal m vs ts gs =
 -- the slots rs are free, and none stands twice
 pub record Usable (m : Model) (s : ℕ) (rs : List ℕ) (gs : List Bool) : Type 0 where
   pub op : is_free (cell_at m.ops s) ≡ true
-  pub regions : All (λ r. is_free (cell_at m.regions r) ≡ true) rs
+  pub regions : AllByRecursion (λ r. is_free (cell_at m.regions r) ≡ true) rs
   pub apart : Apart rs
   pub count : length rs ≡ length gs
 

@@ -12,7 +12,7 @@ pub struct IRRewriter<L: RewriteListener> {
 }
 
 pub mod changing;
-pub mod erasing;
+pub mod erasures;
 pub mod inserting;
 pub mod making;
 pub mod moving;

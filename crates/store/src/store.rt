@@ -11,7 +11,7 @@ pub struct Store {
 }
 
 pub mod changing;
-pub mod erasing;
+pub mod erasures;
 pub mod laws;
 pub mod linking;
 pub mod making;

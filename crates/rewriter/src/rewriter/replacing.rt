@@ -14,7 +14,7 @@ ghost use Rattle.rewriter.specs.Seen.{world, told};
 
 use crate::listener::RewriteListener;
 use crate::rewriter::IRRewriter;
-use crate::rewriter::erasing::notify_erasures;
+use crate::rewriter::erasures::notify_erasures;
 use calls::events::RecorderEvent;
 use erasing::uses::some_defined;
 use model::ids::{IRNode, OpId, Value};

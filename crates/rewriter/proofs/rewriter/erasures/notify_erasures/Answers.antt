@@ -4,7 +4,7 @@ use Rattle.calls.specs.World.{kept, fits}
 use Rattle.calls.specs.Perform.{erasing}
 use Rattle.rewriter.proofs.Ways.{kept_none}
 use Rattle.rewriter.proofs.Erasures.{room_more, told_more}
-use Rattle.rewriter.proofs.rewriter.erasing.notify_erasures.Goals as goal
+use Rattle.rewriter.proofs.rewriter.erasures.notify_erasures.Goals as goal
 
 pub loop-node-init : goal.loop-node-init
 loop-node-init g c = kept_none _ _
