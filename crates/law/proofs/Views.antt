@@ -69,10 +69,10 @@ module _ (S : Setting) (L : Laws S) where
         | inr j ↦ elim j [ inl e ↦ ap (S.live s.env) e ∙ lx | inr k ↦ absurd k ]
       ]))
 
-  -- a rewrite of x queues what its batch lays; x itself, unmarked for that time, is not new
-  pub count_rewrite : (ms : List (Moment S)) (s : State S) → Marked S L ms s → S.Good s.env → (x : S.Op) (e : S.Env) (is : List S.Op) → S.Rewrite s.env x e is
+  -- a rewrite of x queues what its batch lays, or a part of it; x itself, unmarked for that time, is not new
+  pub count_rewritten : (ms : List (Moment S)) (s : State S) → Marked S L ms s → (x : S.Op) (e : S.Env) → ((y : S.Op) → L.Gone s.env y → L.Gone e y) → (is : List S.Op)
       → length (add_all S.same (ever_of ms) (lay_all S e (during S s.env s.marks x) is)) ≡ length (ever_of ms) + fresh S (kept S s.env s.marks) (lay_all S e (during S s.env s.marks x) is)
-  count_rewrite ms s m ok x e is k =
+  count_rewritten ms s m x e gone is =
       count_fresh (lay_all S e (during S s.env s.marks x) is) (kept S s.env s.marks) (ever_of ms) (λ y i. told_kept y (batch_laid S L e (during S s.env s.marks x) is y i).0)
     where
       told_kept : (y : S.Op) → S.live e y ≡ true → Told (kept S s.env s.marks) (ever_of ms) y
@@ -84,9 +84,14 @@ module _ (S : Setting) (L : Laws S) where
                 (λ u i. t.0 (sym q ∙ u) i, λ n. t.1 (λ u. n (q ∙ u)))
             | inr ds ↦ (
               λ u i. elim (m.ever_marked y i) [
-                | inl g ↦ both_ways _ (L.gone_dead e y (L.rewrite_gone s.env x e is ok k y g)) l
+                | inl g ↦ both_ways _ (L.gone_dead e y (gone y g)) l
                 | inr r ↦ both_ways _ ds r.0
               ],
               λ n. absurd (n (kept_dead S L s.env s.marks y ds)),
             )
           ]
+
+  -- a rewrite of x queues what its batch lays; x itself, unmarked for that time, is not new
+  pub count_rewrite : (ms : List (Moment S)) (s : State S) → Marked S L ms s → S.Good s.env → (x : S.Op) (e : S.Env) (is : List S.Op) → S.Rewrite s.env x e is
+      → length (add_all S.same (ever_of ms) (lay_all S e (during S s.env s.marks x) is)) ≡ length (ever_of ms) + fresh S (kept S s.env s.marks) (lay_all S e (during S s.env s.marks x) is)
+  count_rewrite ms s m ok x e is k = count_rewritten ms s m x e (λ y g. L.rewrite_gone s.env x e is ok k y g) is

@@ -1,0 +1,12 @@
+-- A new driver.
+use Rattle.std.specs.Prelude.{◌≡◌, false}
+use Rattle.rules_next.specs.declared.interface.Phase.TheVariants as phase
+use Rattle.rules_next.specs.Rules.{no_counts}
+use Rattle.driver.specs.declared.driver.Driver.{Driver}
+
+-- never begun, and nothing counted
+pub record IsNew (d : Driver) : Type 0 where
+  pub phase : d.phase ≡ phase.NeverBegun
+  pub counts : d.counts ≡ no_counts
+  pub steps : d.steps ≡ 0
+  pub changed : d.changed ≡ false

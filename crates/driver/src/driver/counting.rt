@@ -1,0 +1,77 @@
+//! Counting.
+ghost use Rattle.std.specs.Prelude.{◌≡◌, ◌+◌, ◌<◌, ◌≤◌, Some};
+ghost use Rattle.rules_next.specs.declared.interface.Phase.TheVariants.{Closed};
+ghost use Rattle.rules_next.specs.Rules.{took_one, fated, with_queued};
+ghost use Rattle.model.specs.declared.ids.IRNode.TheVariants.{Operation};
+ghost use Rattle.driver.specs.Counted.{Counted};
+
+use super::Driver;
+use model::ids::{IRNode, OpId};
+use rules_next::interface::{Counts, Failure, Fate, Fault, Phase, TrailRecord};
+
+/// `counts` with one more entry that met this fate.
+fn add_fate(counts: Counts, fate: Fate) -> Counts
+    requires { counts.queued + counts.taken + counts.rewritten + counts.aside + counts.waits + counts.stale + counts.questions < 2251799813687296 }
+    ensures { result ≡ fated counts fate }
+{
+    match fate {
+        Fate::Rewritten => Counts {
+            rewritten: counts.rewritten + 1,
+            ..counts
+        },
+        Fate::SetAside => Counts {
+            aside: counts.aside + 1,
+            ..counts
+        },
+        Fate::Waits => Counts {
+            waits: counts.waits + 1,
+            ..counts
+        },
+        Fate::Stale => Counts {
+            stale: counts.stale + 1,
+            ..counts
+        },
+    }
+}
+
+impl Driver {
+    /// The step that took the entry of `op` ends so; `queued` operations have ever been queued now.
+    pub fn count_entry(&mut self, op: OpId, fate: Fate, queued: u64) -> TrailRecord
+        requires steps { self.old.steps < 1099511627776 }
+        requires few { queued ≤ self.old.counts.queued + 1024 }
+        ensures record { result ≡ record { operation = op; fate = fate } }
+        ensures counted { Counted self.old (with_queued (fated (took_one self.old.counts) fate) queued) self.old.phase self.new }
+    {
+        let taken = Counts {
+            taken: self.counts.taken + 1,
+            ..self.counts
+        };
+        let counts = add_fate(taken, fate);
+        self.counts = Counts { queued, ..counts };
+        self.steps += 1;
+        TrailRecord {
+            operation: op,
+            fate,
+        }
+    }
+
+    /// The step that took the entry of `op` ends in a fault, which closes the conversion.
+    pub fn close_entry(&mut self, op: OpId, fault: Fault, queued: u64) -> Failure
+        requires steps { self.old.steps < 1099511627776 }
+        requires few { queued ≤ self.old.counts.queued + 1024 }
+        ensures failure { result ≡ record { fault = fault; hand = Some (Operation op) } }
+        ensures counted { Counted self.old (with_queued (took_one self.old.counts) queued) Closed self.new }
+    {
+        self.counts = Counts {
+            queued,
+            taken: self.counts.taken + 1,
+            ..self.counts
+        };
+        self.steps += 1;
+        self.phase = Phase::Closed;
+        Failure {
+            fault,
+            hand: Some(IRNode::Operation(op)),
+        }
+    }
+}

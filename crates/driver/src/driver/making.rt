@@ -1,0 +1,54 @@
+//! A new driver.
+ghost use Rattle.std.specs.Prelude.{◌≡◌, IfOk};
+ghost use Rattle.driver.specs.New.{IsNew};
+
+use super::Driver;
+use histories::Histories;
+use queue::Queue;
+use rewriter::{IRRewriter, Recorder};
+use rules_next::interface::{Counts, Phase};
+use states::States;
+use std::alloc::{AllocError, Global};
+use walkers::Nodes;
+use work::Work;
+
+/// Nothing is counted yet.
+pub const NO_COUNTS: Counts = Counts {
+    queued: 0,
+    taken: 0,
+    rewritten: 0,
+    aside: 0,
+    waits: 0,
+    stale: 0,
+    questions: 0,
+};
+
+impl Driver {
+    /// A driver that has not begun. All memory is taken here.
+    pub fn new(heap: Global) -> Result<Driver, AllocError>
+        ensures { IfOk result IsNew }
+    {
+        let recorder = Recorder::new(heap)?;
+        let rewriter = IRRewriter::new(heap, recorder)?;
+        let nodes = Nodes::new(heap)?;
+        let states = States::new(heap)?;
+        let histories = Histories::new(heap)?;
+        Ok(Driver {
+            rewriter,
+            nodes,
+            work: Work {
+                states,
+                worklist: Queue::new(),
+                pending: Queue::new(),
+                next_argument: 0,
+            },
+            histories,
+            counts: NO_COUNTS,
+            steps: 0,
+            phase: Phase::NeverBegun,
+            changed: false,
+            entries: 0,
+            blocks: 0,
+        })
+    }
+}

@@ -1,0 +1,64 @@
+//! What a record does to the histories.
+ghost use Rattle.std.specs.Prelude.{◌≡◌, ◌≤◌};
+ghost use Rattle.row.specs.Items.{row_items};
+ghost use Rattle.rules_next.specs.Histories.{put_types, drop_types, live_only};
+ghost use Rattle.store.specs.Meaning.{meaning};
+ghost use Rattle.histories.specs.Kept.{size_with, is_kept};
+ghost use Rattle.histories.specs.Many.{kept};
+
+use super::Histories;
+use crate::history::{MAX_TYPES, TypeHistory};
+use crate::lookups::place_of;
+use crate::retaining::{AllBut, retain};
+use model::ids::Value;
+use row::Row;
+use store::store::Store;
+
+impl Histories {
+    /// Lets the histories of values go that are not live.
+    pub fn forget_dead(&mut self, store: &Store)
+        ensures { kept self.new ≡ live_only (meaning store.now) (kept self.old) }
+    {
+        retain(&mut self.entries, store);
+    }
+
+    /// Lets the history of `value` go.
+    pub(super) fn drop_types(&mut self, value: Value)
+        ensures { kept self.new ≡ drop_types (kept self.old) value }
+    {
+        retain(&mut self.entries, &AllBut { value });
+    }
+
+    /// Does `value` have a history?
+    pub(super) fn is_kept(&self, value: Value) -> bool
+        ensures { result ≡ is_kept (kept self.now) value }
+    {
+        let entries = self.entries.as_slice();
+        place_of(entries, value) < entries.len()
+    }
+
+    /// How many histories there are once `value` has one.
+    pub(super) fn size_with(&self, value: Value) -> usize
+        ensures { result ≡ size_with (kept self.now) value }
+    {
+        if self.is_kept(value) {
+            self.entries.len()
+        } else {
+            self.entries.len() + 1
+        }
+    }
+
+    /// `value` had just these types.
+    pub(super) fn put_types(&mut self, value: Value, types: Row<u32, MAX_TYPES>)
+        requires { size_with (kept self.old) value ≤ 1024 }
+        ensures { kept self.new ≡ put_types (kept self.old) value (row_items types) }
+    {
+        let place = place_of(self.entries.as_slice(), value);
+        let entry = TypeHistory { value, types };
+        if place < self.entries.len() {
+            self.entries[place] = entry;
+        } else {
+            self.entries.push_reserved(entry);
+        }
+    }
+}

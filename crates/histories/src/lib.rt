@@ -1,0 +1,11 @@
+//! The types that values had.
+#![tactic(auto)]
+
+pub mod histories;
+pub mod history;
+mod joining;
+pub mod lookups;
+mod retaining;
+
+pub use histories::Histories;
+pub use history::{MAX_HISTORIES, MAX_TYPES, TypeHistory};

@@ -1,0 +1,31 @@
+//! The rules of the driver: what it keeps, what a conversion means to it, and what each step does. They stand in specs/.
+#![tactic(auto)]
+
+ghost use Rattle.rules_next.specs.Determined.{RulesDetermined};
+ghost use Rattle.rules_next.specs.Law.{DriverLaw};
+ghost use Rattle.rules_next.specs.Rejects.{RulesReject};
+
+pub mod interface;
+
+pub use interface::{Layer, Phase};
+
+/// For every meaning of a conversion, every list of `begin` and `run` calls keeps the law.
+pub fn law_holds<C>(_conversion: &C) -> u8
+    ensures { DriverLaw C }
+{
+    0
+}
+
+/// The rules leave nothing open but the slots that rewrites pick.
+pub fn rules_determined<C>(_conversion: &C) -> u8
+    ensures { RulesDetermined C }
+{
+    0
+}
+
+/// The rules let through no early end, no work beyond the budget, no invented wait or Circle, and no other store than the conversion's calls leave.
+pub fn rules_reject<C>(_conversion: &C) -> u8
+    ensures { RulesReject C }
+{
+    0
+}

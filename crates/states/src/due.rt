@@ -1,0 +1,111 @@
+//! What has to be rewritten before an operation.
+ghost use Rattle.std.specs.Prelude.{◌≡◌, ◌&&◌, is_some};
+ghost use Rattle.std.specs.Option.{option_to_list};
+ghost use Rattle.row.specs.Items.{row_items};
+ghost use Rattle.model.specs.Model.{find_op};
+ghost use Rattle.store.specs.Meaning.{meaning as model};
+ghost use Rattle.law.specs.Lists.{keep, member};
+ghost use Rattle.law.specs.Machine.{due, dues, first_due};
+ghost use Rattle.rules_next.specs.Setting.{real, in_graph, definer_of};
+ghost use Rattle.rules_next.specs.Driver.{marks_of};
+ghost use Rattle.states.specs.States.{states_in};
+ghost use Rattle.states.specs.Due.{at, plain};
+
+use crate::states::States;
+use conversion::DialectConversion;
+use model::ids::{DefiningEntity, OpId, Value};
+use model::limits::{MAX_OPERANDS, OPERATIONS};
+use row::Row;
+use rules_next::interface::OpState;
+use store::store::Store;
+
+/// Does `op`, if it is live, lie directly in a graph region?
+fn in_graph(store: &Store, op: OpId) -> bool
+    ensures { result ≡ (is_some (find_op (model store.now) op) && in_graph (model store.now) op.slot) }
+{
+    let Some(block) = store.get_parent_block(op) else {
+        return false;
+    };
+    let Some(region) = store.get_parent_region(block) else {
+        return false;
+    };
+    match store.is_graph(region) {
+        Some(graph) => graph,
+        None => false,
+    }
+}
+
+impl States {
+    /// Is `op` to be rewritten? It is asked only while it is unmarked or queued.
+    pub fn is_due<C: DialectConversion>(&self, store: &Store, conversion: &C, op: OpId) -> bool
+        ensures { result ≡ due (real C.DialectConversion.meaning) (at (model store.now) conversion.now) (marks_of (states_in self.now)) op }
+    {
+        match self.state(store, op) {
+            OpState::Unmarked => conversion.can_convert_op(store, op),
+            OpState::Queued => conversion.can_convert_op(store, op),
+            _ => false,
+        }
+    }
+
+    /// The operation that defines `value`, where it is due and does not lie directly in a graph region.
+    fn due_definer<C: DialectConversion>(
+        &self,
+        store: &Store,
+        conversion: &C,
+        value: Value,
+    ) -> Option<OpId>
+        ensures { option_to_list result ≡ keep (due (real C.DialectConversion.meaning) (at (model store.now) conversion.now) (marks_of (states_in self.now))) (definer_of (model store.now) value.definer) }
+    {
+        let DefiningEntity::Op(definer) = value.definer else {
+            return None;
+        };
+        if !self.is_due(store, conversion, definer) {
+            return None;
+        }
+        if in_graph(store, definer) {
+            return None;
+        }
+        Some(definer)
+    }
+
+    /// For each operand of `op` in order, the operation that defines it, where that is due and does not lie directly in a graph region.
+    pub fn due_definers<C: DialectConversion>(
+        &self,
+        store: &Store,
+        conversion: &C,
+        op: OpId,
+    ) -> Row<OpId, MAX_OPERANDS>
+        ensures { row_items result ≡ dues (real C.DialectConversion.meaning) (at (model store.now) conversion.now) (marks_of (states_in self.now)) op }
+    {
+        let mut found = Row::empty(op);
+        let Some(operands) = store.operands(op) else {
+            return found;
+        };
+        for operand in operands {
+            if let Some(definer) = self.due_definer(store, conversion, *operand) {
+                found.push(definer);
+            }
+        }
+        found
+    }
+
+    /// The end of the chain of first due definers that starts at `op`, where it has 512 links or more.
+    pub fn beyond<C: DialectConversion>(
+        &self,
+        store: &Store,
+        conversion: &C,
+        op: OpId,
+    ) -> Option<OpId>
+        ensures { result ≡ plain (member (first_due (real C.DialectConversion.meaning) (at (model store.now) conversion.now) (marks_of (states_in self.now))) 512 op) }
+    {
+        let mut link = op;
+        for _ in 0..OPERATIONS {
+            let definers = self.due_definers(store, conversion, link);
+            match definers.get(0) {
+                Some(definer) => link = definer,
+                None => return None,
+            }
+        }
+        Some(link)
+    }
+}

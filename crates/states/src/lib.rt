@@ -1,0 +1,7 @@
+//! The states of operations, and what is due.
+#![tactic(auto)]
+
+pub mod due;
+pub mod states;
+
+pub use states::States;

@@ -1,0 +1,103 @@
+//! Reading and moving states.
+ghost use Rattle.std.specs.Prelude.{◌≡◌, ◌<◌, true, IfOk};
+ghost use Rattle.store.specs.Meaning.{meaning};
+ghost use Rattle.law.specs.Machine.{is_unmarked};
+ghost use Rattle.rules_next.specs.Driver.{kept_state, state_of, notable, noted, marks_of};
+ghost use Rattle.states.specs.States.{states_in, unmarked_all};
+
+use super::States;
+use model::ids::{IRNode, OpId};
+use model::limits::OPERATIONS;
+use rules_next::interface::{OpEvent, OpState, StateEntry};
+use std::alloc::{AllocError, Global};
+use store::store::Store;
+
+const FRESH: StateEntry = StateEntry {
+    generation: 0,
+    state: OpState::Unmarked,
+};
+
+impl States {
+    /// Every operation is unmarked. All memory is taken here.
+    pub fn new(heap: Global) -> Result<States, AllocError>
+        ensures { IfOk result (λ s. states_in s ≡ unmarked_all) }
+    {
+        let mut entries = Vec::with_capacity(heap, OPERATIONS)?;
+        for _ in 0..OPERATIONS {
+            entries.push_reserved(FRESH);
+        }
+        Ok(States { entries })
+    }
+
+    /// Every operation is unmarked again.
+    pub fn clear(&mut self)
+        ensures { states_in self.new ≡ unmarked_all }
+    {
+        for slot in 0..OPERATIONS {
+            self.entries[slot] = FRESH;
+        }
+    }
+
+    /// The state that is kept of `op`, whether it is live or not.
+    fn kept(&self, op: OpId) -> OpState
+        ensures { result ≡ kept_state (states_in self.now) op }
+    {
+        if op.slot >= OPERATIONS {
+            return OpState::Unmarked;
+        }
+        let entry = self.entries[op.slot];
+        if entry.generation == op.generation {
+            entry.state
+        } else {
+            OpState::Unmarked
+        }
+    }
+
+    /// Has `op` no mark? What is not live is not looked at.
+    pub fn is_unmarked(&self, op: OpId) -> bool
+        ensures { result ≡ is_unmarked (marks_of (states_in self.now) op) }
+    {
+        match self.kept(op) {
+            OpState::Unmarked => true,
+            _ => false,
+        }
+    }
+
+    /// The state of `op`: one that is not live is erased.
+    pub fn state(&self, store: &Store, op: OpId) -> OpState
+        ensures { result ≡ state_of (meaning store.now) (states_in self.now) op }
+    {
+        let Some(_) = store.kind(op) else {
+            return OpState::Erased;
+        };
+        self.kept(op)
+    }
+
+    /// Does the slot of `op` keep its state, or should it? Of one that is dead nothing is kept where its slot keeps the state of another.
+    fn keeps(&self, store: &Store, op: OpId) -> bool
+        ensures test { result ≡ notable (meaning store.now) (states_in self.now) op }
+        ensures within { result ≡ true → op.slot < 512 }
+    {
+        if op.slot >= OPERATIONS {
+            return false;
+        }
+        if self.entries[op.slot].generation == op.generation {
+            return true;
+        }
+        store.is_live(IRNode::Operation(op))
+    }
+
+    /// `event` happens to `op`.
+    pub fn note(&mut self, store: &Store, op: OpId, event: OpEvent)
+        ensures { states_in self.new ≡ noted (meaning store.now) (states_in self.old) op event }
+    {
+        if !self.keeps(store, op) {
+            return;
+        }
+        let state = self.kept(op).moved(event);
+        self.entries[op.slot] = StateEntry {
+            generation: op.generation,
+            state,
+        };
+    }
+}

@@ -1,0 +1,14 @@
+use Rattle.std.proofs.Common.{drop}
+use Rattle.std.specs.List.{flat_map}
+use Rattle.store.specs.Meaning.{meaning as model}
+use Rattle.rules_next.specs.Setting.{inserted_by, inserted}
+use Rattle.rules_next.specs.Driver.{meet_nodes}
+use Rattle.states.specs.Due.{at}
+use Rattle.work.proofs.Turning.{Turning}
+use Rattle.work.proofs.work.Work.meet_inserted.Given as goal
+
+abbrev pub invariant-loop-event : goal.invariant-loop-event
+invariant-loop-event g l =
+    let M = g.C.DialectConversion.meaning in
+    let e = at (model l.store) l.conversion in
+    Turning {M = M} (λ room s. meet_nodes M e room l.hand s (inserted l.events)) e l.hand l.initial.self l.initial.entries l.initial.blocks l.initial.queued l.self l.entries l.blocks l.queued l.event-index (flat_map (inserted_by l.events) (drop l.event-index l.events))
