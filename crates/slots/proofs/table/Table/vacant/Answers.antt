@@ -6,4 +6,5 @@ use Rattle.slots.proofs.table.Table.vacant.Goals as goal
 pub returns : goal.returns
 returns g c =
     let xs = vec_items c.args.self.now.slots in
-    c.is_free.ensures ∙ ap (λ q. is_free (bare q)) c.state.ensures ∙ sym (by_state is_free (λ q. is_free (bare q)) (λ q x. free_bare x q) refl xs c.args.slot)
+    let held = ap (λ q. is_free (bare q)) c.state.ensures ∙ sym (by_state is_free (λ q. is_free (bare q)) (λ q x. free_bare x q) refl xs c.args.slot) in
+    cc
