@@ -1,8 +1,7 @@
 -- What the slots of a table say.
-use Rattle.std.specs.Prelude.{ℕ, ◌+◌, Bool, true, false, cond, List, [], ◌∷◌, map, Some, None, vec_items, Option, ◌==◌, nat_lt, slice_index_or}
-use Rattle.slots.specs.declared.table.State.{State}
-use Rattle.slots.specs.declared.table.State.TheVariants as state
+use Rattle.std.specs.Prelude.{ℕ, ◌+◌, Bool, true, false, cond, List, [], ◌∷◌, map, Some, None, vec_items, Option, ◌==◌, nat_lt, slice_index_or, slice_set, ◌≡◌}
 use Rattle.slots.specs.declared.table.Slot.{Slot}
+use Rattle.slots.specs.declared.table.Slot.TheVariants as slot
 use Rattle.slots.specs.declared.table.Table.{Table}
 
 -- A slot as its users see it: free with the generation that it gives next, live with the one that it gave, or spent.
@@ -11,18 +10,10 @@ pub data Cell (X : Type 0) : Type 0 where
   Live : ℕ → X → Cell X
   Spent : Cell X
 
--- a slot that is not live keeps a content that nobody sees
-abbrev pub stated : {X : Type 0} → State → X → Cell X
-stated (state.Free g) x = Free g
-stated (state.Live g) x = Live g x
-stated state.Spent x = Spent
-
--- the cell of a state alone
-abbrev pub bare : State → Cell (Unit {0})
-bare q = stated q tt
-
 abbrev pub cell_of : {X : Type 0} → Slot X → Cell X
-cell_of s = stated s.state s.content
+cell_of (slot.Free g) = Free g
+cell_of (slot.Live g x) = Live g x
+cell_of slot.Spent = Spent
 
 abbrev pub cells : {X : Type 0} → Table X → List (Cell X)
 cells t = map cell_of (vec_items t.slots)
@@ -66,6 +57,18 @@ retired (Free g) = Free g
 retired (Live g x) = cond (nat_lt g 4294967295) (Free (g + 1)) Spent
 retired Spent = Spent
 
+-- the generation that a slot gives next, where it gives one
+abbrev pub next_given : {X : Type 0} → Cell X → Option ℕ
+next_given (Free g) = Some g
+next_given (Live g x) = None
+next_given Spent = None
+
+-- the generation under which something lives in a slot, where something does
+abbrev pub live_under : {X : Type 0} → Cell X → Option ℕ
+live_under (Free g) = None
+live_under (Live g x) = Some g
+live_under Spent = None
+
 -- the generation that a slot gives next, 0 where it gives none
 abbrev pub next_of : {X : Type 0} → Cell X → ℕ
 next_of (Free g) = g
@@ -90,6 +93,12 @@ holds (Free g) = None
 holds (Live g x) = Some x
 holds Spent = None
 
--- the state of the slot s; past the last slot it is as if spent
-abbrev pub state_at : {X : Type 0} → List (Slot X) → ℕ → State
-state_at xs s = slice_index_or (map (λ (x : Slot _). x.state) xs) s state.Spent
+-- what lives in a cell was changed as R says; a cell in which nothing lives is as it was
+abbrev pub CellChanged : {X : Type 0} → (X → X → Type 0) → Cell X → Cell X → Type 0
+CellChanged R (Live g x) d = (y : _) × (d ≡ Live g y) × R x y
+CellChanged R (Free g) d = d ≡ Free g
+CellChanged R Spent d = d ≡ Spent
+
+-- what lives in the slot s was changed as R says, and all else is as it was
+abbrev pub ChangedBy : {X : Type 0} → (X → X → Type 0) → ℕ → List (Cell X) → List (Cell X) → Type 0
+ChangedBy R s cs ds = (d : Cell _) × (ds ≡ slice_set cs s d) × CellChanged R (cell_at cs s) d

@@ -4,4 +4,4 @@
 
 pub mod table;
 
-pub use table::{Slot, State, Table};
+pub use table::{Slot, Table};

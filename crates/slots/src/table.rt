@@ -1,82 +1,72 @@
 //! A row of slots.
 ghost use Rattle.std.specs.Prelude.{◌≡◌, ℕ, ◌+◌, ◌<◌, ◌≤◌, true, false, length, replicate, is_some, IfOk, vec_len, MatchOption, slice_set};
-ghost use Rattle.slots.specs.Cells.{Free, Live, bare, cells, cell_at, found, under, is_free, is_live, frees, live_count, next_of, live_of, holds, retired, state_at};
+ghost use Rattle.slots.specs.Cells.{Free, Live, cell_of, cells, cell_at, found, under, is_free, is_live, frees, live_count, next_given, live_under, holds, retired, CellChanged, ChangedBy};
 ghost use Rattle.std.specs.Option.{option_map};
+ghost use Rattle.std.specs.Fn.{FnOnceReturnsAtMut};
 
 use std::alloc::{AllocError, Global};
 
-/// Free with the generation that it gives next, live with the one that it gave, or spent.
+/// Free with the generation that it gives next, live with the one that it gave and what lives there, or spent.
 #[derive(Clone, Copy)]
-pub enum State {
+pub enum Slot<T> {
     Free(u32),
-    Live(u32),
+    Live(u32, T),
     Spent,
 }
 
-impl State {
-    fn is_free(self) -> bool
-        ensures { result ≡ is_free (bare self) }
+impl<T: Copy> Slot<T> {
+    fn is_free(&self) -> bool
+        ensures { result ≡ is_free (cell_of self.now) }
+    {
+        matches!(self, Slot::Free(_))
+    }
+
+    fn is_live(&self) -> bool
+        ensures { result ≡ is_live (cell_of self.now) }
+    {
+        matches!(self, Slot::Live(..))
+    }
+
+    /// What lives here under just this generation.
+    fn get(&self, generation: u32) -> Option<&T>
+        ensures { option_map (λ x. x.now) result ≡ under (cell_of self.now) generation }
     {
         match self {
-            State::Free(_) => true,
-            _ => false,
+            Slot::Live(own, content) if *own == generation => Some(content),
+            _ => None,
         }
     }
 
-    fn is_live(self) -> bool
-        ensures { result ≡ is_live (bare self) }
+    /// What lives here, under whatever generation.
+    fn content(&self) -> Option<&T>
+        ensures { option_map (λ x. x.now) result ≡ holds (cell_of self.now) }
     {
         match self {
-            State::Live(_) => true,
-            _ => false,
+            Slot::Live(_, content) => Some(content),
+            _ => None,
         }
     }
 
-    /// Is the slot live under just this generation?
-    fn is_under(self, generation: u32) -> bool
-        ensures { result ≡ is_some (under (bare self) generation) }
+    /// Changes what lives here in its place; nothing where nothing does.
+    fn change<F: FnOnce(&mut T)>(&mut self, f: F)
+        requires { F.IsAlwaysCallable f }
+        ensures { CellChanged (λ x y. FnOnceReturnsAtMut F.FnOnce f x tt y) (cell_of self.old) (cell_of self.new) }
     {
-        match self {
-            State::Live(own) => own == generation,
-            _ => false,
+        if let Slot::Live(_, content) = self {
+            f(content);
         }
     }
 
-    fn next(self) -> u32
-        ensures { result ≡ next_of (bare self) }
+    /// The slot when what lived in it has gone.
+    fn released(self) -> Slot<T>
+        ensures { cell_of result ≡ retired (cell_of self) }
     {
         match self {
-            State::Free(next) => next,
-            _ => 0,
-        }
-    }
-
-    fn own(self) -> u32
-        ensures { result ≡ live_of (bare self) }
-    {
-        match self {
-            State::Live(own) => own,
-            _ => 0,
-        }
-    }
-
-    /// The state when what lived in the slot has gone.
-    fn after_release(self) -> State
-        ensures { bare result ≡ retired (bare self) }
-    {
-        match self {
-            State::Live(own) if own < u32::MAX => State::Free(own + 1),
-            State::Live(_) => State::Spent,
+            Slot::Live(own, _) if own < u32::MAX => Slot::Free(own + 1),
+            Slot::Live(..) => Slot::Spent,
             other => other,
         }
     }
-}
-
-/// The content stands beside the state, so that it can be lent and changed in its place. It means nothing unless the slot is live.
-#[derive(Clone, Copy)]
-pub struct Slot<T> {
-    pub state: State,
-    pub content: T,
 }
 
 #[derive(Drop)]
@@ -85,16 +75,13 @@ pub struct Table<T> {
 }
 
 impl<T: Copy> Table<T> {
-    /// `n` slots that were never used; `blank` stands in them till they are.
-    pub fn new(heap: Global, n: usize, blank: T) -> Result<Table<T>, AllocError>
+    /// `n` slots that were never used.
+    pub fn new(heap: Global, n: usize) -> Result<Table<T>, AllocError>
         ensures { IfOk result (λ t. cells t ≡ replicate n (Free 0)) }
     {
         let mut slots = Vec::with_capacity(heap, n)?;
         for _ in 0..n {
-            slots.push_reserved(Slot {
-                state: State::Free(0),
-                content: blank,
-            });
+            slots.push_reserved(Slot::Free(0));
         }
         Ok(Table { slots })
     }
@@ -106,81 +93,61 @@ impl<T: Copy> Table<T> {
         self.slots.len()
     }
 
-    /// The state of `slot`; past the last one it is as if spent.
-    fn state(&self, slot: usize) -> State
-        ensures { result ≡ state_at self.now.slots.items slot }
-    {
-        if slot >= self.slots.len() {
-            return State::Spent;
-        }
-        self.slots[slot].state
-    }
-
     /// What lives in `slot` under `generation`, in its place.
     pub fn get(&self, slot: usize, generation: u32) -> Option<&T>
         ensures { option_map (λ x. x.now) result ≡ found (cells self.now) slot generation }
     {
-        if slot >= self.slots.len() {
-            return None;
-        }
-        let at = &self.slots[slot];
-        if at.state.is_under(generation) {
-            Some(&at.content)
-        } else {
-            None
-        }
+        self.slots.get(slot)?.get(generation)
     }
 
     /// What lives in `slot`, under whatever generation.
     pub fn peek(&self, slot: usize) -> Option<&T>
         ensures { option_map (λ x. x.now) result ≡ holds (cell_at (cells self.now) slot) }
     {
-        if slot >= self.slots.len() {
-            return None;
-        }
-        let at = &self.slots[slot];
-        if at.state.is_live() {
-            Some(&at.content)
-        } else {
-            None
-        }
+        self.slots.get(slot)?.content()
     }
 
     /// Can `slot` be used?
     pub fn vacant(&self, slot: usize) -> bool
         ensures { result ≡ is_free (cell_at (cells self.now) slot) }
     {
-        self.state(slot).is_free()
+        self.slots.get(slot).is_some_and(Slot::is_free)
     }
 
     /// Does something live in `slot`?
     pub fn occupied(&self, slot: usize) -> bool
         ensures { result ≡ is_live (cell_at (cells self.now) slot) }
     {
-        self.state(slot).is_live()
+        self.slots.get(slot).is_some_and(Slot::is_live)
     }
 
-    /// The generation that `slot` gives next, 0 where it gives none.
-    pub fn next_generation(&self, slot: usize) -> u32
-        ensures { result ≡ next_of (cell_at (cells self.now) slot) }
+    /// The generation that `slot` gives next, if it gives one.
+    pub fn next_generation(&self, slot: usize) -> Option<u32>
+        ensures { result ≡ next_given (cell_at (cells self.now) slot) }
     {
-        self.state(slot).next()
+        match self.slots.get(slot)? {
+            Slot::Free(next) => Some(*next),
+            _ => None,
+        }
     }
 
-    /// The generation under which something lives in `slot`, 0 where nothing does.
-    pub fn live_generation(&self, slot: usize) -> u32
-        ensures { result ≡ live_of (cell_at (cells self.now) slot) }
+    /// The generation under which something lives in `slot`, if something does.
+    pub fn live_generation(&self, slot: usize) -> Option<u32>
+        ensures { result ≡ live_under (cell_at (cells self.now) slot) }
     {
-        self.state(slot).own()
+        match self.slots.get(slot)? {
+            Slot::Live(own, _) => Some(*own),
+            _ => None,
+        }
     }
 
     /// A slot that can be used.
     pub fn free_slot(&self) -> Option<usize>
         ensures { MatchOption result (frees (cells self.now) ≡ 0) (λ s. is_free (cell_at (cells self.now) s) ≡ true) }
     {
-        for i in 0..self.len() {
-            if self.vacant(i) {
-                return Some(i);
+        for (place, slot) in self.slots.iter().enumerate() {
+            if slot.is_free() {
+                return Some(place);
             }
         }
         None
@@ -191,8 +158,8 @@ impl<T: Copy> Table<T> {
         ensures { result ≡ frees (cells self.now) }
     {
         let mut count = 0;
-        for i in 0..self.len() {
-            if self.vacant(i) {
+        for slot in &self.slots {
+            if slot.is_free() {
                 count += 1;
             }
         }
@@ -204,12 +171,22 @@ impl<T: Copy> Table<T> {
         ensures { result ≡ live_count (cells self.now) }
     {
         let mut count = 0;
-        for i in 0..self.len() {
-            if self.occupied(i) {
+        for slot in &self.slots {
+            if slot.is_live() {
                 count += 1;
             }
         }
         count
+    }
+
+    /// Changes what lives in `slot` in its place; nothing where nothing does.
+    pub fn change<F: FnOnce(&mut T)>(&mut self, slot: usize, f: F)
+        requires { F.IsAlwaysCallable f }
+        ensures { ChangedBy (λ x y. FnOnceReturnsAtMut F.FnOnce f x tt y) slot (cells self.old) (cells self.new) }
+    {
+        if slot < self.slots.len() {
+            self.slots[slot].change(f);
+        }
     }
 
     /// `x` lives in `slot` from now on, under the generation that is answered.
@@ -218,11 +195,8 @@ impl<T: Copy> Table<T> {
         ensures was { cell_at (cells self.old) slot ≡ Free result }
         ensures cells { cells self.new ≡ slice_set (cells self.old) slot (Live result x) }
     {
-        let generation = self.slots[slot].state.next();
-        self.slots[slot] = Slot {
-            state: State::Live(generation),
-            content: x,
-        };
+        let generation = self.next_generation(slot).unwrap();
+        self.slots[slot] = Slot::Live(generation, x);
         generation
     }
 
@@ -230,10 +204,8 @@ impl<T: Copy> Table<T> {
     pub fn release(&mut self, slot: usize)
         ensures { cells self.new ≡ slice_set (cells self.old) slot (retired (cell_at (cells self.old) slot)) }
     {
-        if slot >= self.slots.len() {
-            return;
+        if slot < self.slots.len() {
+            self.slots[slot] = self.slots[slot].released();
         }
-        let state = self.slots[slot].state.after_release();
-        self.slots[slot].state = state;
     }
 }

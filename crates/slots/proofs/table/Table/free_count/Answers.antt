@@ -1,24 +1,24 @@
-use Rattle.std.proofs.Common.{◌<◌, ◌≤◌, true, false, length, sym, ◌∙◌, arith}
-use Rattle.std.proofs.lemmas.List.{at_drop_all}
-use Rattle.slots.specs.Cells.{cells, frees}
-use Rattle.slots.proofs.CellLaws.{frees_step, frees_few}
+use Rattle.std.proofs.Common.{true, false, sym, ◌∙◌, arith}
+use Rattle.std.proofs.lemmas.List.{length-map}
+use Rattle.slots.specs.Cells.{cells, cell_of}
+use Rattle.slots.proofs.CellLaws.{frees_few}
+use Rattle.slots.proofs.SlotLaws.{frees_read}
 use Rattle.slots.proofs.table.Table.free_count.Goals as goal
-use Rattle.slots.proofs.table.Table.free_count.Goals.{then-vacant, else-vacant}
+use Rattle.slots.proofs.table.Table.free_count.Goals.{then-is_free, else-is_free}
 
 pub overflow_add-count : goal.overflow_add-count
 overflow_add-count g c =
-    let lt : c.loop-i.i < length (cells c.args.self.now) = omega arith in
-    omega (arith, c.loop-i.invariant, frees_step (cells c.args.self.now) c.loop-i.i true lt c.if-vacant.ensures, frees_few (cells c.args.self.now))
+    let xs = c.args.self.now.slots.items in
+    let step = frees_read xs _ c.deref-slot-items.ensures.value c.loop-slot.slot-index _ true c.loop-slot-test.true c.slot-item.is (sym c.if-is_free.true ∙ c.is_free.ensures) in
+    omega (arith, c.loop-slot.invariant, step, frees_few (cells c.args.self.now), length-map xs cell_of)
 
-pub loop-i-preserved : goal.loop-i-preserved
-loop-i-preserved g c =
-    let lt : c.loop-i.i < length (cells c.args.self.now) = omega arith in
-    elim c.if-vacant.branch [
-      | then-vacant w ↦ omega (arith, w.count-is, c.loop-i.invariant, frees_step (cells c.args.self.now) c.loop-i.i true lt (sym w.if-vacant.true ∙ c.vacant.ensures))
-      | else-vacant w ↦ omega (arith, w.count-is, c.loop-i.invariant, frees_step (cells c.args.self.now) c.loop-i.i false lt (sym w.if-vacant.false ∙ c.vacant.ensures))
+pub loop-slot-preserved : goal.loop-slot-preserved
+loop-slot-preserved g c =
+    elim c.if-is_free.branch [
+      | then-is_free w ↦
+          let step = frees_read c.args.self.now.slots.items _ c.deref-slot-items.ensures.value c.loop-slot.slot-index _ true c.loop-slot-test.true c.slot-item.is (sym w.if-is_free.true ∙ c.is_free.ensures) in
+          omega (arith, w.count-is, c.loop-slot.invariant, step)
+      | else-is_free w ↦
+          let step = frees_read c.args.self.now.slots.items _ c.deref-slot-items.ensures.value c.loop-slot.slot-index _ false c.loop-slot-test.true c.slot-item.is (sym w.if-is_free.false ∙ c.is_free.ensures) in
+          omega (arith, w.count-is, c.loop-slot.invariant, step)
     ]
-
-pub returns : goal.returns
-returns g c =
-    let le : length (cells c.args.self.now) ≤ c.loop-i.i = omega arith in
-    omega (arith, c.loop-i.invariant, at_drop_all frees (cells c.args.self.now) c.loop-i.i le)

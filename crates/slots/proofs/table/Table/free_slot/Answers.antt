@@ -1,15 +1,8 @@
-use Rattle.std.proofs.Common.{◌<◌, ◌≤◌, false, length, sym, ◌∙◌, arith}
-use Rattle.std.proofs.lemmas.List.{at_drop_all}
-use Rattle.slots.specs.Cells.{cells, frees}
-use Rattle.slots.proofs.CellLaws.{frees_step}
+use Rattle.std.proofs.Common.{false, sym, ◌∙◌, arith}
+use Rattle.slots.proofs.SlotLaws.{frees_read}
 use Rattle.slots.proofs.table.Table.free_slot.Goals as goal
 
-pub loop-i-preserved : goal.loop-i-preserved
-loop-i-preserved g c =
-    let lt : c.loop-i.i < length (cells c.args.self.now) = omega arith in
-    omega (arith, c.loop-i.invariant, frees_step (cells c.args.self.now) c.loop-i.i false lt c.if-vacant.ensures)
-
-pub returns : goal.returns
-returns g c =
-    let le : length (cells c.args.self.now) ≤ c.loop-i.i = omega arith in
-    sym c.loop-i.invariant ∙ at_drop_all frees (cells c.args.self.now) c.loop-i.i le
+pub loop-place-preserved : goal.loop-place-preserved
+loop-place-preserved g c =
+    let step = frees_read c.args.self.now.slots.items _ c.deref-slot-items.ensures.value c.loop-place.place _ false (omega arith) c.slot-item.is (sym c.if-is_free.false ∙ c.is_free.ensures) in
+    omega (arith, c.loop-place.invariant, step)

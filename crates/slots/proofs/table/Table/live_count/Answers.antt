@@ -1,24 +1,24 @@
-use Rattle.std.proofs.Common.{◌<◌, ◌≤◌, true, false, length, sym, ◌∙◌, arith}
-use Rattle.std.proofs.lemmas.List.{at_drop_all}
-use Rattle.slots.specs.Cells.{cells, live_count}
-use Rattle.slots.proofs.CellLaws.{lives_step, lives_few}
+use Rattle.std.proofs.Common.{true, false, sym, ◌∙◌, arith}
+use Rattle.std.proofs.lemmas.List.{length-map}
+use Rattle.slots.specs.Cells.{cells, cell_of}
+use Rattle.slots.proofs.CellLaws.{lives_few}
+use Rattle.slots.proofs.SlotLaws.{lives_read}
 use Rattle.slots.proofs.table.Table.live_count.Goals as goal
-use Rattle.slots.proofs.table.Table.live_count.Goals.{then-occupied, else-occupied}
+use Rattle.slots.proofs.table.Table.live_count.Goals.{then-is_live, else-is_live}
 
 pub overflow_add-count : goal.overflow_add-count
 overflow_add-count g c =
-    let lt : c.loop-i.i < length (cells c.args.self.now) = omega arith in
-    omega (arith, c.loop-i.invariant, lives_step (cells c.args.self.now) c.loop-i.i true lt c.if-occupied.ensures, lives_few (cells c.args.self.now))
+    let xs = c.args.self.now.slots.items in
+    let step = lives_read xs _ c.deref-slot-items.ensures.value c.loop-slot.slot-index _ true c.loop-slot-test.true c.slot-item.is (sym c.if-is_live.true ∙ c.is_live.ensures) in
+    omega (arith, c.loop-slot.invariant, step, lives_few (cells c.args.self.now), length-map xs cell_of)
 
-pub loop-i-preserved : goal.loop-i-preserved
-loop-i-preserved g c =
-    let lt : c.loop-i.i < length (cells c.args.self.now) = omega arith in
-    elim c.if-occupied.branch [
-      | then-occupied w ↦ omega (arith, w.count-is, c.loop-i.invariant, lives_step (cells c.args.self.now) c.loop-i.i true lt (sym w.if-occupied.true ∙ c.occupied.ensures))
-      | else-occupied w ↦ omega (arith, w.count-is, c.loop-i.invariant, lives_step (cells c.args.self.now) c.loop-i.i false lt (sym w.if-occupied.false ∙ c.occupied.ensures))
+pub loop-slot-preserved : goal.loop-slot-preserved
+loop-slot-preserved g c =
+    elim c.if-is_live.branch [
+      | then-is_live w ↦
+          let step = lives_read c.args.self.now.slots.items _ c.deref-slot-items.ensures.value c.loop-slot.slot-index _ true c.loop-slot-test.true c.slot-item.is (sym w.if-is_live.true ∙ c.is_live.ensures) in
+          omega (arith, w.count-is, c.loop-slot.invariant, step)
+      | else-is_live w ↦
+          let step = lives_read c.args.self.now.slots.items _ c.deref-slot-items.ensures.value c.loop-slot.slot-index _ false c.loop-slot-test.true c.slot-item.is (sym w.if-is_live.false ∙ c.is_live.ensures) in
+          omega (arith, w.count-is, c.loop-slot.invariant, step)
     ]
-
-pub returns : goal.returns
-returns g c =
-    let le : length (cells c.args.self.now) ≤ c.loop-i.i = omega arith in
-    omega (arith, c.loop-i.invariant, at_drop_all live_count (cells c.args.self.now) c.loop-i.i le)
