@@ -3,4 +3,4 @@
 // An inline bounded list of Copy elements.
 mod row;
 
-pub use row::Row;
+pub use row::{Row, TooLong};
