@@ -1,6 +1,6 @@
 #![tactic(auto)]
 
 // An inline bounded list of Copy elements.
-mod store;
+mod row;
 
-pub use store::Row;
+pub use row::{Row, TooLong};

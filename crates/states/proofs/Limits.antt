@@ -1,7 +1,7 @@
 -- Every store keeps its limits.
 use Rattle.std.proofs.Common.{ℕ, ◌≤◌, Bool, true, false, cond, eqb, length, Some, None, sym, subst, arith}
 use Rattle.std.proofs.lemmas.List.{length-take}
-use Rattle.row.specs.declared.store.Row.{Row}
+use Rattle.row.specs.declared.row.Row.{Row}
 use Rattle.row.specs.Items.{row_items}
 use Rattle.slots.specs.Cells.{Cell, Free, Live, Spent, cell_at, cells, viewed, under}
 use Rattle.slots.proofs.CellLaws.{cell_at_viewed}

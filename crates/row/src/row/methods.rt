@@ -1,0 +1,78 @@
+ghost use Rattle.std.specs.Prelude.{◌≡◌, ℕ, ◌+◌, ◌-◌, ◌<◌, ◌≤◌, true, cond, [], ◌∷◌, ◌++◌, length, is_some, MatchOption, nat_lt, slice_index_or, slice_set};
+ghost use Rattle.std.specs.List.{remove, slice_get};
+ghost use Rattle.row.specs.Items.{row_items};
+
+use super::Row;
+
+impl<T: Copy, const N: usize> Row<T, N> {
+    pub fn len(&self) -> usize
+        ensures value { result ≡ length (row_items self.now) }
+        ensures bound { result ≤ N }
+    {
+        self.len
+    }
+
+    pub fn as_slice(&self) -> &[T]
+        ensures { result.now ≡ row_items self.now }
+    {
+        &self.items[..self.len]
+    }
+
+    pub fn get(&self, i: usize) -> Option<T>
+        ensures { result ≡ slice_get (row_items self.now) i }
+    {
+        self.as_slice().get(i).copied()
+    }
+
+    /// The element `i` becomes `x`; the result is what was there before.
+    pub fn set(&mut self, i: usize, x: T) -> Option<T>
+        ensures value { result ≡ slice_get (row_items self.old) i }
+        ensures items { row_items self.new ≡ slice_set (row_items self.old) i x }
+    {
+        let before = self.get(i)?;
+        self.items[i] = x;
+        Some(before)
+    }
+
+    pub fn push(&mut self, x: T)
+        requires { length (row_items self.old) < N }
+        ensures { row_items self.new ≡ row_items self.old ++ x ∷ [] }
+    {
+        self.items[self.len] = x;
+        self.len += 1;
+    }
+
+    pub fn remove(&mut self, i: usize) -> Option<T>
+        ensures value { MatchOption result (length (row_items self.old) ≤ i) (λ x. (i < length (row_items self.old)) × (x ≡ slice_index_or (row_items self.old) i x)) }
+        ensures items { row_items self.new ≡ remove (row_items self.old) i }
+    {
+        let x = self.get(i)?;
+        let len = self.len;
+        self.items[..len].copy_within(i + 1.., i);
+        self.len -= 1;
+        Some(x)
+    }
+
+    // Old name, goes when no crate calls it.
+    pub fn empty(fill: T) -> Row<T, N>
+        ensures { row_items result ≡ [] }
+    {
+        Row {
+            items: [fill; N],
+            len: 0,
+        }
+    }
+
+    // Old name, goes when no crate calls it.
+    pub fn from_slice(fill: T, items: &[T]) -> Option<Row<T, N>>
+        ensures { MatchOption result (N < length items.now) (λ row. row_items row ≡ items.now) }
+    {
+        let len = items.len();
+        if N < len {
+            return None;
+        }
+        let mut all = [fill; N];
+        all[..len].copy_from_slice(items);
+        Some(Row { items: all, len })
+    }
+}
