@@ -3,19 +3,19 @@ ghost use Rattle.std.specs.Prelude.{◌≡◌};
 ghost use Rattle.model.specs.declared.ids.DefiningEntity.TheVariants.{Op, Block};
 ghost use Rattle.model.specs.declared.ids.IRNode.TheVariants.{Operation, BasicBlock, Region};
 
-#[derive(Clone, Copy, Debug, PartialEq, Eq)]
+#[derive(Clone, Copy, Debug, Default, PartialEq, Eq)]
 pub struct OpId {
     pub slot: usize,
     pub generation: u32,
 }
 
-#[derive(Clone, Copy, Debug, PartialEq, Eq)]
+#[derive(Clone, Copy, Debug, Default, PartialEq, Eq)]
 pub struct BlockId {
     pub slot: usize,
     pub generation: u32,
 }
 
-#[derive(Clone, Copy, Debug, PartialEq, Eq)]
+#[derive(Clone, Copy, Debug, Default, PartialEq, Eq)]
 pub struct RegionId {
     pub slot: usize,
     pub generation: u32,
@@ -28,8 +28,17 @@ pub enum DefiningEntity {
     Block(BlockId),
 }
 
+/// What stands in a place of a row that holds no value.
+impl Default for DefiningEntity {
+    ghost is_default = { λ definer. definer ≡ Op (record { slot = 0; generation = 0 }) };
+
+    fn default() -> DefiningEntity {
+        DefiningEntity::Op(OpId::default())
+    }
+}
+
 /// A result of an operation or an argument of a block.
-#[derive(Clone, Copy, Debug, PartialEq, Eq)]
+#[derive(Clone, Copy, Debug, Default, PartialEq, Eq)]
 pub struct Value {
     pub definer: DefiningEntity,
     pub index: u8,
