@@ -15,27 +15,14 @@ impl Raw {
     pub fn at(&self, node: usize) -> Links
         ensures { result ≡ links_at self.now.links.items node }
     {
-        if node >= self.links.len() {
-            return Links {
-                container: None,
-                prev: None,
-                next: None,
-            };
-        }
-        self.links[node]
+        self.links.get(node).copied().unwrap_or_default()
     }
 
     /// What `container` keeps; past the last container, what an empty one keeps.
     pub fn ends_of(&self, container: usize) -> Ends
         ensures { result ≡ ends_at self.now.ends.items container }
     {
-        if container >= self.ends.len() {
-            return Ends {
-                head: None,
-                tail: None,
-            };
-        }
-        self.ends[container]
+        self.ends.get(container).copied().unwrap_or_default()
     }
 
     /// What is behind the place `at` becomes `to`: `None` is the place before the first node.
@@ -98,10 +85,6 @@ impl Raw {
     {
         self.set_next(container, prev, next);
         self.set_prev(container, next, prev);
-        self.links[node] = Links {
-            container: None,
-            prev: None,
-            next: None,
-        };
+        self.links[node] = Links::default();
     }
 }
