@@ -123,29 +123,29 @@ module _ (L : List Links) (E : List Ends) (s : Sound L E) (L' : List Links) (E' 
   unlink_at_lem us vs xs p q w is hp hq hx room = rw (w.0, w.1, hx, hp, hq) (remove_between L E s n c us vs is room)
 
   -- Each edit takes what was read of the node that it is about.
-  pub insert_after_lem : (m : ℕ) (at : Links) → at ≡ links_at L m → at.container ≡ Some c → Linked L E L' E' n c (Some m) at.next → n < length L → home_of L n ≡ None
+  pub insert_after_lem : (m : ℕ) (p q : Option ℕ) → links_at L m ≡ linked c p q → Linked L E L' E' n c (Some m) q → n < length L → home_of L n ≡ None
       → Sound L' E' × ((k : ℕ) → home_of L m ≡ Some k → Relinked L E L' E' k (insert_after m n (members L E k)) n (Some k))
-  insert_after_lem m at read hm w within new =
-      let home : home_of L m ≡ Some c = sym (ap (λ l. l.container) read) ∙ hm in
+  insert_after_lem m p q read w within new =
+      let home : home_of L m ≡ Some c = ap (λ l. l.container) read in
       let t = split m (members L E c) (s.held c m home) in
       let us = t.0 in
       let vs = t.1 in
       let h = subst (Chain (fwd L E c) (bwd L E c) None) t.2 (s.chain c) in
-      let done = link_at (us ++ m ∷ []) vs (insert_after m n (members L E c)) (Some m) at.next w (t.2 ∙ sym (append_assoc us (m ∷ []) vs)) (sym (last_push None us m))
-      (ap (λ l. l.next) read ∙ (chain_at (fwd L E c) (bwd L E c) None us m vs h).0)
+      let done = link_at (us ++ m ∷ []) vs (insert_after m n (members L E c)) (Some m) q w (t.2 ∙ sym (append_assoc us (m ∷ []) vs)) (sym (last_push None us m))
+      (sym (ap (λ l. l.next) read) ∙ (chain_at (fwd L E c) (bwd L E c) None us m vs h).0)
       (ap (insert_after m n) t.2 ∙ insert_after_at m n us vs (apart_before m us vs (subst Apart t.2 (s.apart c))) ∙ sym (append_assoc us (m ∷ []) (n ∷ vs)))
       within new (s.bound c m home) in
       (done.0, λ k hk. subst (λ j. Relinked L E L' E' j (insert_after m n (members L E j)) n (Some j)) (some_some c k (sym home ∙ hk)) done.1)
 
-  pub insert_before_lem : (m : ℕ) (at : Links) → at ≡ links_at L m → at.container ≡ Some c → Linked L E L' E' n c at.prev (Some m) → n < length L → home_of L n ≡ None
+  pub insert_before_lem : (m : ℕ) (p q : Option ℕ) → links_at L m ≡ linked c p q → Linked L E L' E' n c p (Some m) → n < length L → home_of L n ≡ None
       → Sound L' E' × ((k : ℕ) → home_of L m ≡ Some k → Relinked L E L' E' k (insert_before m n (members L E k)) n (Some k))
-  insert_before_lem m at read hm w within new =
-      let home : home_of L m ≡ Some c = sym (ap (λ l. l.container) read) ∙ hm in
+  insert_before_lem m p q read w within new =
+      let home : home_of L m ≡ Some c = ap (λ l. l.container) read in
       let t = split m (members L E c) (s.held c m home) in
       let us = t.0 in
       let vs = t.1 in
       let h = subst (Chain (fwd L E c) (bwd L E c) None) t.2 (s.chain c) in
-      let done = link_at us (m ∷ vs) (insert_before m n (members L E c)) at.prev (Some m) w t.2 (ap (λ l. l.prev) read ∙ (chain_at (fwd L E c) (bwd L E c) None us m vs h).1) refl
+      let done = link_at us (m ∷ vs) (insert_before m n (members L E c)) p (Some m) w t.2 (sym (ap (λ l. l.prev) read) ∙ (chain_at (fwd L E c) (bwd L E c) None us m vs h).1) refl
       (ap (insert_before m n) t.2 ∙ insert_before_at m n us vs (apart_before m us vs (subst Apart t.2 (s.apart c)))) within new (s.bound c m home) in
       (done.0, λ k hk. subst (λ j. Relinked L E L' E' j (insert_before m n (members L E j)) n (Some j)) (some_some c k (sym home ∙ hk)) done.1)
 
@@ -158,15 +158,15 @@ module _ (L : List Links) (E : List Ends) (s : Sound L E) (L' : List Links) (E' 
   insert_back at read w =
       link_at (members L E c) [] _ at.tail None w (sym (append-nil (members L E c))) (ap (λ l. l.tail) read ∙ chain_last (fwd L E c) (bwd L E c) None (members L E c) (s.chain c)) refl refl
 
-  pub unlink : (at : Links) → at ≡ links_at L n → at.container ≡ Some c → Unlinked L E L' E' n c at.prev at.next
+  pub unlink : (p q : Option ℕ) → links_at L n ≡ linked c p q → Unlinked L E L' E' n c p q
       → Sound L' E' × ((k : ℕ) → home_of L n ≡ Some k → Relinked L E L' E' k (without n (members L E k)) n None)
-  unlink at read hn w =
-      let home : home_of L n ≡ Some c = sym (ap (λ l. l.container) read) ∙ hn in
+  unlink p q read w =
+      let home : home_of L n ≡ Some c = ap (λ l. l.container) read in
       let t = split n (members L E c) (s.held c n home) in
       let us = t.0 in
       let vs = t.1 in
       let h = chain_at (fwd L E c) (bwd L E c) None us n vs (subst (Chain (fwd L E c) (bwd L E c) None) t.2 (s.chain c)) in
-      let done = unlink_at_lem us vs (without n (members L E c)) at.prev at.next w t.2 (ap (λ l. l.prev) read ∙ h.1) (ap (λ l. l.next) read ∙ h.0)
+      let done = unlink_at_lem us vs (without n (members L E c)) p q w t.2 (sym (ap (λ l. l.prev) read) ∙ h.1) (sym (ap (λ l. l.next) read) ∙ h.0)
       (ap (without n) t.2 ∙ without_at n us vs (apart_before n us vs (subst Apart t.2 (s.apart c)))) (s.bound c n home) in
       (done.0, λ k hk. subst (λ j. Relinked L E L' E' j (without n (members L E j)) n None) (some_some c k (sym home ∙ hk)) done.1)
 

@@ -1,8 +1,8 @@
 //! The links as they lie in memory.
-ghost use Rattle.std.specs.Prelude.{◌≡◌, ℕ, ◌<◌, length, Some, None};
-ghost use Rattle.lists.specs.Walk.{links_at, ends_at, put_next, put_prev, put_head, put_tail, patch_links, patch_ends, Place};
+ghost use Rattle.std.specs.Prelude.{◌≡◌, ℕ, ◌<◌, length, MatchOption, Some, None};
+ghost use Rattle.lists.specs.Walk.{links_at, ends_at, home_of, put_next, put_prev, put_head, put_tail, patch_links, patch_ends, Place};
 
-use crate::links::{Ends, Links};
+use crate::links::{Ends, Gap, Links};
 
 #[derive(Drop)]
 pub struct Raw {
@@ -15,27 +15,30 @@ impl Raw {
     pub fn at(&self, node: usize) -> Links
         ensures { result ≡ links_at self.now.links.items node }
     {
-        if node >= self.links.len() {
-            return Links {
-                container: None,
-                prev: None,
-                next: None,
-            };
-        }
-        self.links[node]
+        self.links.get(node).copied().unwrap_or_default()
+    }
+
+    /// The gap that `node` fills, if it is in a list.
+    pub fn gap_of(&self, node: usize) -> Option<Gap>
+        ensures { MatchOption result (home_of self.now.links.items node ≡ None) (λ gap. links_at self.now.links.items node ≡ record { container = Some gap.container; prev = gap.prev; next = gap.next }) }
+    {
+        let Links {
+            container,
+            prev,
+            next,
+        } = self.at(node);
+        Some(Gap {
+            container: container?,
+            prev,
+            next,
+        })
     }
 
     /// What `container` keeps; past the last container, what an empty one keeps.
     pub fn ends_of(&self, container: usize) -> Ends
         ensures { result ≡ ends_at self.now.ends.items container }
     {
-        if container >= self.ends.len() {
-            return Ends {
-                head: None,
-                tail: None,
-            };
-        }
-        self.ends[container]
+        self.ends.get(container).copied().unwrap_or_default()
     }
 
     /// What is behind the place `at` becomes `to`: `None` is the place before the first node.
@@ -63,45 +66,35 @@ impl Raw {
         }
     }
 
-    /// Links `node` in `container` between the places `prev` and `next`.
-    pub fn link(&mut self, node: usize, container: usize, prev: Option<usize>, next: Option<usize>)
+    /// Links `node` in `gap`.
+    pub fn link(&mut self, node: usize, gap: Gap)
         requires node { node < length self.old.links.items }
-        requires container { container < length self.old.ends.items }
-        requires prev { Place self.old.links.items prev }
-        requires next { Place self.old.links.items next }
-        ensures links { self.new.links.items ≡ patch_links self.old.links.items prev (Some node) next (Some node) node (record { container = Some container; prev = prev; next = next }) }
-        ensures ends { self.new.ends.items ≡ patch_ends self.old.ends.items container prev (Some node) next (Some node) }
+        requires container { gap.container < length self.old.ends.items }
+        requires prev { Place self.old.links.items gap.prev }
+        requires next { Place self.old.links.items gap.next }
+        ensures links { self.new.links.items ≡ patch_links self.old.links.items gap.prev (Some node) gap.next (Some node) node (record { container = Some gap.container; prev = gap.prev; next = gap.next }) }
+        ensures ends { self.new.ends.items ≡ patch_ends self.old.ends.items gap.container gap.prev (Some node) gap.next (Some node) }
     {
-        self.set_next(container, prev, Some(node));
-        self.set_prev(container, next, Some(node));
+        self.set_next(gap.container, gap.prev, Some(node));
+        self.set_prev(gap.container, gap.next, Some(node));
         self.links[node] = Links {
-            container: Some(container),
-            prev,
-            next,
+            container: Some(gap.container),
+            prev: gap.prev,
+            next: gap.next,
         };
     }
 
-    /// Unlinks `node` from `container`, where it stands between the places `prev` and `next`.
-    pub fn unlink(
-        &mut self,
-        node: usize,
-        container: usize,
-        prev: Option<usize>,
-        next: Option<usize>,
-    )
+    /// Unlinks `node`, which fills `gap`.
+    pub fn unlink(&mut self, node: usize, gap: Gap)
         requires node { node < length self.old.links.items }
-        requires container { container < length self.old.ends.items }
-        requires prev { Place self.old.links.items prev }
-        requires next { Place self.old.links.items next }
-        ensures links { self.new.links.items ≡ patch_links self.old.links.items prev next next prev node (record { container = None; prev = None; next = None }) }
-        ensures ends { self.new.ends.items ≡ patch_ends self.old.ends.items container prev next next prev }
+        requires container { gap.container < length self.old.ends.items }
+        requires prev { Place self.old.links.items gap.prev }
+        requires next { Place self.old.links.items gap.next }
+        ensures links { self.new.links.items ≡ patch_links self.old.links.items gap.prev gap.next gap.next gap.prev node (record { container = None; prev = None; next = None }) }
+        ensures ends { self.new.ends.items ≡ patch_ends self.old.ends.items gap.container gap.prev gap.next gap.next gap.prev }
     {
-        self.set_next(container, prev, next);
-        self.set_prev(container, next, prev);
-        self.links[node] = Links {
-            container: None,
-            prev: None,
-            next: None,
-        };
+        self.set_next(gap.container, gap.prev, gap.next);
+        self.set_prev(gap.container, gap.next, gap.prev);
+        self.links[node] = Links::default();
     }
 }

@@ -3,6 +3,7 @@ ghost use Rattle.std.specs.Prelude.{◌≡◌, ℕ, ◌<◌, true, [], ◌∷◌
 ghost use Rattle.lists.specs.Walk.{next_in, prev_in, first_of, last_of, insert_after, insert_before, without};
 ghost use Rattle.lists.specs.Lists.{nodes, containers, members, home, Relinked};
 
+use crate::links::Gap;
 use crate::lists::LinkedLists;
 
 impl LinkedLists {
@@ -62,8 +63,12 @@ impl LinkedLists {
         requires container { container < containers self.old }
         ensures { Relinked self.old self.new container (node ∷ members self.old container) node (Some container) }
     {
-        let ends = self.raw.ends_of(container);
-        self.raw.link(node, container, None, ends.head);
+        let gap = Gap {
+            container,
+            prev: None,
+            next: self.raw.ends_of(container).head,
+        };
+        self.raw.link(node, gap);
     }
 
     /// Links `node` as the last of `container`.
@@ -73,8 +78,12 @@ impl LinkedLists {
         requires container { container < containers self.old }
         ensures { Relinked self.old self.new container (members self.old container ++ node ∷ []) node (Some container) }
     {
-        let ends = self.raw.ends_of(container);
-        self.raw.link(node, container, ends.tail, None);
+        let gap = Gap {
+            container,
+            prev: self.raw.ends_of(container).tail,
+            next: None,
+        };
+        self.raw.link(node, gap);
     }
 
     /// Links `node` right before `mark`.
@@ -84,9 +93,11 @@ impl LinkedLists {
         requires linked { is_some (home self.old mark) ≡ true }
         ensures { (c : ℕ) → home self.old mark ≡ Some c → Relinked self.old self.new c (insert_before mark node (members self.old c)) node (Some c) }
     {
-        let links = self.raw.at(mark);
-        let container = links.container.unwrap();
-        self.raw.link(node, container, links.prev, Some(mark));
+        let gap = Gap {
+            next: Some(mark),
+            ..self.raw.gap_of(mark).unwrap()
+        };
+        self.raw.link(node, gap);
     }
 
     /// Links `node` right behind `mark`.
@@ -96,9 +107,11 @@ impl LinkedLists {
         requires linked { is_some (home self.old mark) ≡ true }
         ensures { (c : ℕ) → home self.old mark ≡ Some c → Relinked self.old self.new c (insert_after mark node (members self.old c)) node (Some c) }
     {
-        let links = self.raw.at(mark);
-        let container = links.container.unwrap();
-        self.raw.link(node, container, Some(mark), links.next);
+        let gap = Gap {
+            prev: Some(mark),
+            ..self.raw.gap_of(mark).unwrap()
+        };
+        self.raw.link(node, gap);
     }
 
     /// Takes `node` out of its container's list.
@@ -106,8 +119,7 @@ impl LinkedLists {
         requires { is_some (home self.old node) ≡ true }
         ensures { (c : ℕ) → home self.old node ≡ Some c → Relinked self.old self.new c (without node (members self.old c)) node None }
     {
-        let links = self.raw.at(node);
-        let container = links.container.unwrap();
-        self.raw.unlink(node, container, links.prev, links.next);
+        let gap = self.raw.gap_of(node).unwrap();
+        self.raw.unlink(node, gap);
     }
 }

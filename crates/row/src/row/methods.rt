@@ -3,6 +3,7 @@ ghost use Rattle.std.specs.List.{remove, slice_get};
 ghost use Rattle.row.specs.Items.{row_items};
 
 use super::Row;
+use std::mem;
 
 impl<T: Copy, const N: usize> Row<T, N> {
     pub fn len(&self) -> usize
@@ -29,9 +30,10 @@ impl<T: Copy, const N: usize> Row<T, N> {
         ensures value { result ≡ slice_get (row_items self.old) i }
         ensures items { row_items self.new ≡ slice_set (row_items self.old) i x }
     {
-        let before = self.get(i)?;
-        self.items[i] = x;
-        Some(before)
+        if self.len <= i {
+            return None;
+        }
+        Some(mem::replace(&mut self.items[i], x))
     }
 
     pub fn push(&mut self, x: T)
@@ -46,9 +48,11 @@ impl<T: Copy, const N: usize> Row<T, N> {
         ensures value { MatchOption result (length (row_items self.old) ≤ i) (λ x. (i < length (row_items self.old)) × (x ≡ slice_index_or (row_items self.old) i x)) }
         ensures items { row_items self.new ≡ remove (row_items self.old) i }
     {
-        let x = self.get(i)?;
-        let len = self.len;
-        self.items[..len].copy_within(i + 1.., i);
+        if self.len <= i {
+            return None;
+        }
+        let x = self.items[i];
+        self.items.copy_within(i + 1..self.len, i);
         self.len -= 1;
         Some(x)
     }
