@@ -2,9 +2,9 @@
 use Rattle.std.proofs.Common.{◌≡◌, ℕ, zero, suc, ◌+◌, ◌<◌, ◌≤◌, Bool, true, false, cond, eqb, List, [], ◌∷◌, map, length, drop, set, replicate, is_some, Some, None, Option, sym, refl, ap, ◌∙◌, inl, inr, arith}
 use Rattle.std.proofs.lemmas.List.{get_or_past, at_drop_more, set-get_or}
 use Rattle.std.proofs.lemmas.Bool.{cases_lt, eq-eqb, eqb-true, cases_Bool}
-use Rattle.std.specs.Option.{option_map}
+use Rattle.std.specs.Option.{option_map, unwrap_or}
 use Rattle.slots.specs.Cells.{Cell, Free, Live, Spent}
-use Rattle.slots.specs.Cells.{cell_at, is_free, is_live, frees, live_count, found, under, viewed, next_of, live_of, holds, retired}
+use Rattle.slots.specs.Cells.{cell_at, is_free, is_live, frees, live_count, found, under, viewed, next_of, live_of, next_given, live_under, holds, retired}
 
 pub never : false ≡ true → ⊥
 never e = let z : ◌≡◌ {A = ℕ} 0 1 = cc in omega arith
@@ -167,3 +167,15 @@ live_of_viewed {X} f cs s = ap live_of (cell_at_viewed f cs s) ∙ at (cell_at c
 pub mapped_mapped : {X Y Z : Type 0} (f : X → Y) (g : Y → Z) (q : Option X) → option_map g (option_map f q) ≡ option_map (λ x. g (f x)) q
 mapped_mapped f g None = refl
 mapped_mapped f g (Some x) = refl
+
+-- the generations by number, 0 where there is none
+module _ {X : Type 0} where
+  pub live_of_under : (c : Cell X) → unwrap_or (live_under c) 0 ≡ live_of c
+  live_of_under (Free g) = refl
+  live_of_under (Live g x) = refl
+  live_of_under Spent = refl
+
+  pub next_of_given : (c : Cell X) (g : ℕ) → next_given c ≡ Some g → g ≡ next_of c
+  next_of_given (Free h) g e = let d : h ≡ g = cc in sym d
+  next_of_given (Live h x) g e = let z : ◌≡◌ {A = ℕ} 0 1 = cc in absurd (omega arith)
+  next_of_given Spent g e = let z : ◌≡◌ {A = ℕ} 0 1 = cc in absurd (omega arith)

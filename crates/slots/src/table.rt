@@ -48,7 +48,7 @@ impl<T: Copy> Slot<T> {
     }
 
     /// Changes what lives here in its place; nothing where nothing does.
-    fn change<F: FnOnce(&mut T)>(&mut self, f: F)
+    pub fn change<F: FnOnce(&mut T)>(&mut self, f: F)
         requires { F.IsAlwaysCallable f }
         ensures { CellChanged (λ x y. FnOnceReturnsAtMut F.FnOnce f x tt y) (cell_of self.old) (cell_of self.new) }
     {

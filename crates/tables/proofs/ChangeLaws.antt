@@ -1,24 +1,22 @@
--- A record that is lent, and changed in its place.
-use Rattle.std.proofs.Common.{◌≡◌, ℕ, ◌<◌, ◌≤◌, map, length, get_or, set, vec_items, sym, refl, ap, ◌∙◌, arith}
-use Rattle.std.proofs.lemmas.List.{length-map, length-set, set_past}
-use Rattle.slots.specs.declared.table.Slot.{Slot}
+-- A record that is changed in its place.
+use Rattle.std.proofs.Common.{◌≡◌, ℕ, map, length, set, sym, ap, ◌∙◌}
+use Rattle.std.proofs.lemmas.List.{map-set, length-set}
 use Rattle.slots.specs.declared.table.Table.{Table}
-use Rattle.slots.specs.Cells.{cells, cell_of, viewed}
-use Rattle.slots.proofs.SlotLaws.{view_lent}
+use Rattle.slots.specs.Cells.{Cell, Free, Live, Spent, cells, cell_at, viewed, CellChanged, ChangedBy}
+use Rattle.slots.proofs.CellLaws.{cell_at_viewed}
 use Rattle.tables.specs.View.{Changed}
 
-module _ {X Y : Type 0} (f : X → Y) (h : Y → Y) (t : Table X) (s : ℕ) where
-  pub changed_past : length (cells t) ≤ s → Changed f h s t t
-  changed_past le =
-      let past : length (map (viewed f) (cells t)) ≤ s = omega (arith, length-map (cells t) (viewed f)) in
-      record { after = sym (set_past (map (viewed f) (cells t)) s _ past); len = refl }
+-- what R says of the records, h says in the eyes of f
+module _ {X Y : Type 0} (f : X → Y) (h : Y → Y) (R : X → X → Type 0) (seen : (x y : X) → R x y → f y ≡ h (f x)) where
+  pub cell_changed : (c d : Cell X) → CellChanged R c d → viewed f d ≡ viewed h (viewed f c)
+  cell_changed (Free g) d e = ap (viewed f) e
+  cell_changed (Live g x) d e = ap (viewed f) e.1 ∙ ap (Live g) (seen x e.0 e.2)
+  cell_changed Spent d e = ap (viewed f) e
 
-  pub changed_lent : (u : Table X) (x : Slot X) (r : X) → s < length (cells t) → x ≡ get_or (vec_items t.slots) s x
-      → vec_items u.slots ≡ set (vec_items t.slots) s (record { state = x.state; content = r }) → f r ≡ h (f x.content) → Changed f h s t u
-  changed_lent u x r lt at e d =
-      let xs = vec_items t.slots in
-      let within : s < length xs = omega (arith, length-map xs cell_of) in
-      record {
-        after = ap (λ ys. map (viewed f) (map cell_of ys)) e ∙ view_lent xs s f h x r within at d;
-        len = ap (λ ys. length (map cell_of ys)) e ∙ length-map (set xs s _) cell_of ∙ length-set xs s _ ∙ sym (length-map xs cell_of);
-      }
+  pub changed_by : (t u : Table X) (s : ℕ) → ChangedBy R s (cells t) (cells u) → Changed f h s t u
+  changed_by t u s e = record {
+    after =
+        ap (map (viewed f)) e.1 ∙ map-set (viewed f) (cells t) s e.0
+        ∙ ap (set (map (viewed f) (cells t)) s) (cell_changed (cell_at (cells t) s) e.0 e.2 ∙ ap (viewed h) (sym (cell_at_viewed f (cells t) s)));
+    len = ap length e.1 ∙ length-set (cells t) s e.0;
+  }

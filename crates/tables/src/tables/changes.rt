@@ -1,66 +1,58 @@
 //! How records are changed in their places.
 ghost use Rattle.std.specs.Prelude.{◌≡◌, ℕ, ◌+◌, ◌<◌, ◌≤◌, map, length};
 ghost use Rattle.row.specs.Items.{row_items};
-ghost use Rattle.slots.specs.Cells.{cell_at, viewed, cells};
+ghost use Rattle.slots.specs.Cells.{cell_of, viewed, cells};
 ghost use Rattle.model.specs.Calls.{retyped, reargued, replaced, reused, typed_at, replace_all};
 ghost use Rattle.tables.specs.View.{view_op, view_block, view, sizes, Changed};
 
 use crate::records::{BasicBlock, Operation};
 use crate::tables::Tables;
 use model::ids::{DefiningEntity, Value};
-use model::same::same_value;
+use model::limits::MAX_OPERANDS;
 use row::Row;
-use slots::Table;
+use slots::{Slot, Table};
 
 /// The result `index` of the operation in `slot` has the type `to`.
 pub fn set_result_type(operations: &mut Table<Operation>, slot: usize, index: usize, to: u32)
     ensures { Changed view_op (retyped index to) slot operations.old operations.new }
 {
-    if slot >= operations.len() {
-        return;
-    }
-    let operation = &mut operations.slots[slot].content;
-    operation.results.set(index, to);
+    operations.change(slot, |operation| {
+        operation.results.set(index, to);
+    });
 }
 
 /// `new` in place of `old`, and any other value as it is.
 pub fn exchange(value: Value, old: Value, new: Value) -> Value
     ensures { result ≡ replaced old new value }
 {
-    if same_value(value, old) { new } else { value }
+    if value == old { new } else { value }
 }
 
 /// `new` stands in place of `old` among the operands.
-fn replace_uses(operands: &mut Row<Value, 8>, old: Value, new: Value)
+fn replace_uses(operands: &mut Row<Value, MAX_OPERANDS>, old: Value, new: Value)
     ensures { row_items operands.new ≡ map (replaced old new) (row_items operands.old) }
 {
-    for i in 0..operands.len() {
-        if let Some(value) = operands.get(i) {
-            operands.set(i, exchange(value, old, new));
-        }
+    let mut replaced = Row::default();
+    for value in operands.as_slice() {
+        replaced.push(exchange(*value, old, new));
     }
+    *operands = replaced;
 }
 
 /// The argument `index` of the block in `slot` has the type `to`.
 pub fn set_argument_type(blocks: &mut Table<BasicBlock>, slot: usize, index: usize, to: u32)
     ensures { Changed view_block (reargued index to) slot blocks.old blocks.new }
 {
-    if slot >= blocks.len() {
-        return;
-    }
-    let basic_block = &mut blocks.slots[slot].content;
-    basic_block.arguments.set(index, to);
+    blocks.change(slot, |basic_block| {
+        basic_block.arguments.set(index, to);
+    });
 }
 
 /// `new` stands in place of `old` among the operands of the operation in `slot`.
-fn replace_in(operations: &mut Table<Operation>, slot: usize, old: Value, new: Value)
-    ensures { Changed view_op (reused old new) slot operations.old operations.new }
+fn replace_in(slot: &mut Slot<Operation>, old: Value, new: Value)
+    ensures { viewed view_op (cell_of slot.new) ≡ viewed (reused old new) (viewed view_op (cell_of slot.old)) }
 {
-    if slot >= operations.len() {
-        return;
-    }
-    let operation = &mut operations.slots[slot].content;
-    replace_uses(&mut operation.operands, old, new);
+    slot.change(|operation| replace_uses(&mut operation.operands, old, new));
 }
 
 /// `new` stands in place of `old` among the operands of each operation.
@@ -68,8 +60,8 @@ pub fn replace_everywhere(operations: &mut Table<Operation>, old: Value, new: Va
     ensures cells { map (viewed view_op) (cells operations.new) ≡ map (viewed (reused old new)) (map (viewed view_op) (cells operations.old)) }
     ensures len { length (cells operations.new) ≡ length (cells operations.old) }
 {
-    for slot in 0..operations.len() {
-        replace_in(operations, slot, old, new);
+    for slot in operations.slots.iter_mut() {
+        replace_in(slot, old, new);
     }
 }
 

@@ -1,95 +1,19 @@
 //! Where operations and blocks lie.
 ghost use Rattle.std.specs.Prelude.{◌≡◌, ℕ, ◌+◌, ◌<◌, ◌≤◌, true, is_some, None};
-ghost use Rattle.lists.specs.Walk.{first_of, last_of};
 ghost use Rattle.lists.specs.Lists.{home};
-ghost use Rattle.model.specs.Model.{above, inside, next_slot, prev_slot, next_block_slot, prev_block_slot};
+ghost use Rattle.model.specs.Model.{above, inside};
 ghost use Rattle.model.specs.Calls.{unlink_at};
 ghost use Rattle.tables.specs.View.{view, sizes};
 
 use crate::tables::Tables;
 
 impl Tables {
-    /// The slot of the block that has the operation in `slot`.
-    pub fn home_of(&self, slot: usize) -> Option<usize>
-        ensures { result ≡ (view self.now).home_of slot }
-    {
-        self.op_lists.get_container(slot)
-    }
-
-    /// The slot of the operation behind the one in `slot`, in its block.
-    pub fn next_of(&self, slot: usize) -> Option<usize>
-        ensures { result ≡ next_slot (view self.now) slot }
-    {
-        self.op_lists.get_next(slot)
-    }
-
-    /// The slot of the operation before the one in `slot`, in its block.
-    pub fn prev_of(&self, slot: usize) -> Option<usize>
-        ensures { result ≡ prev_slot (view self.now) slot }
-    {
-        self.op_lists.get_prev(slot)
-    }
-
-    /// The slot of the first operation of the block in the slot `block`.
-    pub fn first_op(&self, block: usize) -> Option<usize>
-        ensures { result ≡ first_of ((view self.now).ops_of block) }
-    {
-        self.op_lists.get_head(block)
-    }
-
-    /// The slot of the last operation of the block in the slot `block`.
-    pub fn last_op(&self, block: usize) -> Option<usize>
-        ensures { result ≡ last_of None ((view self.now).ops_of block) }
-    {
-        self.op_lists.get_tail(block)
-    }
-
-    /// The slot of the region that has the block in `slot`.
-    pub fn place_of(&self, slot: usize) -> Option<usize>
-        ensures { result ≡ (view self.now).place_of slot }
-    {
-        self.block_lists.get_container(slot)
-    }
-
-    /// The slot of the block behind the one in `slot`, in its region.
-    pub fn next_block_of(&self, slot: usize) -> Option<usize>
-        ensures { result ≡ next_block_slot (view self.now) slot }
-    {
-        self.block_lists.get_next(slot)
-    }
-
-    /// The slot of the block before the one in `slot`, in its region.
-    pub fn prev_block_of(&self, slot: usize) -> Option<usize>
-        ensures { result ≡ prev_block_slot (view self.now) slot }
-    {
-        self.block_lists.get_prev(slot)
-    }
-
-    /// The slot of the first block of the region in the slot `region`.
-    pub fn first_block(&self, region: usize) -> Option<usize>
-        ensures { result ≡ first_of ((view self.now).blocks_of region) }
-    {
-        self.block_lists.get_head(region)
-    }
-
-    /// The slot of the last block of the region in the slot `region`.
-    pub fn last_block(&self, region: usize) -> Option<usize>
-        ensures { result ≡ last_of None ((view self.now).blocks_of region) }
-    {
-        self.block_lists.get_tail(region)
-    }
-
     /// The slot of the operation right above the block in `slot`.
     pub fn owner_above(&self, slot: usize) -> Option<usize>
         ensures { result ≡ above (view self.now) slot }
     {
-        match self.place_of(slot) {
-            Some(region) => match self.regions.peek(region) {
-                Some(record) => Some(record.owner.slot),
-                None => None,
-            },
-            None => None,
-        }
+        let region = self.block_lists.get_container(slot)?;
+        Some(self.regions.peek(region)?.owner.slot)
     }
 
     /// Does the block in the slot `block` lie inside the operation in the slot `op`?
@@ -104,7 +28,7 @@ impl Tables {
             if owner == op {
                 return true;
             }
-            let Some(home) = self.home_of(owner) else {
+            let Some(home) = self.op_lists.get_container(owner) else {
                 return false;
             };
             at = home;

@@ -12,6 +12,7 @@ use crate::tables::Tables;
 use crate::tables::opens::open_regions;
 use crate::tables::points::link_block;
 use model::ids::{BlockId, OpId, Value};
+use model::limits::{MAX_ARGUMENTS, MAX_OPERANDS, MAX_RESULTS};
 use model::points::BlockInsertionPoint;
 use row::Row;
 
@@ -22,8 +23,8 @@ impl Tables {
         slot: usize,
         kind: u16,
         note: u32,
-        operands: Row<Value, 8>,
-        results: Row<u32, 4>,
+        operands: Row<Value, MAX_OPERANDS>,
+        results: Row<u32, MAX_RESULTS>,
         marks: &[bool],
     ) -> OpId
         requires free { is_free (cell_at (cells self.old.operations) slot) ≡ true }
@@ -32,7 +33,7 @@ impl Tables {
         ensures made { MadeAt (view self.old) (view self.new) slot kind note (row_items operands) (row_items results) marks.now result }
         ensures sizes { sizes self.new ≡ sizes self.old }
     {
-        let generation = self.operations.next_generation(slot);
+        let generation = self.operations.next_generation(slot).unwrap();
         let owner = OpId { slot, generation };
         let regions = open_regions(&mut self.regions, owner, marks);
         self.operations.occupy(
@@ -53,7 +54,7 @@ impl Tables {
         &mut self,
         slot: usize,
         point: BlockInsertionPoint,
-        arguments: Row<u32, 8>,
+        arguments: Row<u32, MAX_ARGUMENTS>,
     ) -> BlockId
         requires free { is_free (cell_at (cells self.old.blocks) slot) ≡ true }
         requires node { slot < nodes self.old.block_lists }

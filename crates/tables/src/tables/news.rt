@@ -3,10 +3,8 @@ ghost use Rattle.std.specs.Prelude.{◌≡◌, ℕ, [], ◌∷◌, IfOk};
 ghost use Rattle.model.specs.Model.{blank};
 ghost use Rattle.tables.specs.View.{view, sizes};
 
-use crate::records::{BasicBlock, NO_OPERATION, Operation};
 use crate::tables::Tables;
 use lists::lists::LinkedLists;
-use model::ids::Region;
 use slots::Table;
 use std::alloc::{AllocError, Global};
 
@@ -20,13 +18,9 @@ impl Tables {
     ) -> Result<Tables, AllocError>
         ensures { IfOk result (λ t. (view t ≡ blank ops blocks regions) × (sizes t ≡ ops ∷ blocks ∷ regions ∷ ops ∷ blocks ∷ blocks ∷ regions ∷ [])) }
     {
-        let operation_table = Table::new(heap, ops, Operation::blank())?;
-        let block_table = Table::new(heap, blocks, BasicBlock::blank())?;
-        let blank = Region {
-            graph: false,
-            owner: NO_OPERATION,
-        };
-        let region_table = Table::new(heap, regions, blank)?;
+        let operation_table = Table::new(heap, ops)?;
+        let block_table = Table::new(heap, blocks)?;
+        let region_table = Table::new(heap, regions)?;
         let op_lists = LinkedLists::new(heap, ops, blocks)?;
         let block_lists = LinkedLists::new(heap, blocks, regions)?;
         Ok(Tables {

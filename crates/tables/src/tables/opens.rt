@@ -5,8 +5,8 @@ ghost use Rattle.slots.specs.Cells.{Live};
 ghost use Rattle.row.specs.Items.{row_items};
 ghost use Rattle.model.specs.Calls.{Opened};
 
-use crate::records::NO_REGION;
 use model::ids::{OpId, Region, RegionId};
+use model::limits::MAX_REGIONS;
 use row::Row;
 use slots::Table;
 
@@ -23,15 +23,14 @@ fn open_region(regions: &mut Table<Region>, owner: OpId, graph: bool) -> RegionI
 }
 
 /// Opens a region for `owner` for each mark, and answers their identities.
-pub fn open_regions(regions: &mut Table<Region>, owner: OpId, marks: &[bool]) -> Row<RegionId, 4>
+pub fn open_regions(regions: &mut Table<Region>, owner: OpId, marks: &[bool]) -> Row<RegionId, MAX_REGIONS>
     requires few { length marks.now ≤ 4 }
     requires room { length marks.now ≤ frees (cells regions.old) }
     ensures { Opened (cells regions.old) (cells regions.new) owner marks.now (row_items result) }
 {
-    let mut ids: Row<RegionId, 4> = Row::empty(NO_REGION);
+    let mut ids = Row::default();
     for graph in marks {
-        let id = open_region(regions, owner, *graph);
-        ids.push(id);
+        ids.push(open_region(regions, owner, *graph));
     }
     ids
 }

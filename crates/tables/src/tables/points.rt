@@ -56,7 +56,7 @@ impl Tables {
                 Some(block.slot)
             }
             OpInsertionPoint::AfterOperation(mark) | OpInsertionPoint::BeforeOperation(mark) => {
-                self.home_of(mark.slot)
+                self.op_lists.get_container(mark.slot)
             }
         }
     }
@@ -100,7 +100,7 @@ impl Tables {
         if point.is_unset() {
             return Some(Refusal::PointUnset);
         }
-        if self.home_of(op.slot).is_some() {
+        if self.op_lists.get_container(op.slot).is_some() {
             return Some(Refusal::InBlock);
         }
         let Some(block) = self.block_at(point) else {

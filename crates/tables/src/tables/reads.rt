@@ -37,7 +37,7 @@ impl Tables {
     pub fn region_id(&self, slot: usize) -> RegionId
         ensures { result ≡ region_id (view self.now) slot }
     {
-        let generation = self.regions.live_generation(slot);
+        let generation = self.regions.live_generation(slot).unwrap_or(0);
         RegionId { slot, generation }
     }
 
@@ -45,7 +45,7 @@ impl Tables {
     pub fn op_id(&self, slot: usize) -> OpId
         ensures { result ≡ op_id (view self.now) slot }
     {
-        let generation = self.operations.live_generation(slot);
+        let generation = self.operations.live_generation(slot).unwrap_or(0);
         OpId { slot, generation }
     }
 
@@ -53,7 +53,7 @@ impl Tables {
     pub fn block_id(&self, slot: usize) -> BlockId
         ensures { result ≡ block_id (view self.now) slot }
     {
-        let generation = self.blocks.live_generation(slot);
+        let generation = self.blocks.live_generation(slot).unwrap_or(0);
         BlockId { slot, generation }
     }
 
@@ -62,14 +62,10 @@ impl Tables {
         ensures { result ≡ type_of (view self.now) value }
     {
         match value.definer {
-            DefiningEntity::Op(op) => match self.operation(op) {
-                Some(operation) => operation.results.get(value.index as usize),
-                None => None,
-            },
-            DefiningEntity::Block(block) => match self.basic_block(block) {
-                Some(basic_block) => basic_block.arguments.get(value.index as usize),
-                None => None,
-            },
+            DefiningEntity::Op(op) => self.operation(op)?.results.get(usize::from(value.index)),
+            DefiningEntity::Block(block) => {
+                self.basic_block(block)?.arguments.get(usize::from(value.index))
+            }
         }
     }
 
@@ -84,6 +80,7 @@ impl Tables {
     pub fn are_values(&self, values: &[Value]) -> bool
         ensures { result ≡ are_values (view self.now) values.now }
     {
+        // Stays: a `for`, since of `values.iter().all(..)` the check does not prove the result.
         for value in values {
             if !self.is_value(*value) {
                 return false;
@@ -123,7 +120,7 @@ impl Tables {
         if self.operation(op).is_none() {
             return Some(Refusal::NotLive);
         }
-        if self.home_of(op.slot).is_none() {
+        if self.op_lists.get_container(op.slot).is_none() {
             return Some(Refusal::NoBlock);
         }
         None

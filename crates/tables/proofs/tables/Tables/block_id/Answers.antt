@@ -1,8 +1,11 @@
 use Rattle.std.proofs.Common.{sym, ap, ◌∙◌}
-use Rattle.slots.specs.Cells.{cells}
-use Rattle.slots.proofs.CellLaws.{live_of_viewed}
+use Rattle.std.specs.Option.{unwrap_or}
+use Rattle.slots.specs.Cells.{cells, cell_at}
+use Rattle.slots.proofs.CellLaws.{live_of_under, live_of_viewed}
 use Rattle.tables.specs.View.{view_block}
 use Rattle.tables.proofs.tables.Tables.block_id.Goals as goal
 
 pub returns : goal.returns
-returns c = ap (λ g. record { slot = c.args.slot; generation = g }) (c.live_generation-generation.ensures ∙ sym (live_of_viewed view_block (cells c.args.self.now.blocks) c.args.slot))
+returns c =
+    let cs = cells c.args.self.now.blocks in
+    ap (λ g. record { slot = c.args.slot; generation = g }) (c.unwrap_or-generation.ensures ∙ ap (λ q. unwrap_or q 0) c.live_generation.ensures ∙ live_of_under (cell_at cs c.args.slot) ∙ sym (live_of_viewed view_block cs c.args.slot))

@@ -26,19 +26,19 @@ returns-then-owner-op c =
     let e : n - i ≡ suc (n - (i + 1)) = omega arith in
     sym (inside_here (view c.args.self.now) c.args.op c.loop.at (n - i) (n - (i + 1)) e c.in-Some.owner (sym c.in-Some.ensures) c.if-owner-op.true) ∙ c.loop.invariant
 
-pub returns-in_default-home_of : goal.returns-in_default-home_of
-returns-in_default-home_of c =
+pub returns-in_default-get_container : goal.returns-in_default-get_container
+returns-in_default-get_container c =
     let n = length (cells c.args.self.now.operations) in
     let i = c.loop.counter in
     let e : n - i ≡ suc (n - (i + 1)) = omega arith in
-    sym (inside_top (view c.args.self.now) c.args.op c.loop.at (n - i) (n - (i + 1)) e c.in-Some.owner (sym c.in-Some.ensures) c.if-owner-op.false (sym c.in_default-home_of.ensures)) ∙ c.loop.invariant
+    sym (inside_top (view c.args.self.now) c.args.op c.loop.at (n - i) (n - (i + 1)) e c.in-Some.owner (sym c.in-Some.ensures) c.if-owner-op.false (sym c.in_default-get_container.ensures)) ∙ c.loop.invariant
 
 pub loop-preserved : goal.loop-preserved
 loop-preserved c =
     let n = length (cells c.args.self.now.operations) in
     let i = c.loop.counter in
     let e : n - i ≡ suc (n - (i + 1)) = omega arith in
-    sym (inside_on (view c.args.self.now) c.args.op c.loop.at (n - i) (n - (i + 1)) e c.in-Some.owner c.in-Some-home_of.home (sym c.in-Some.ensures) c.if-owner-op.false (sym c.in-Some-home_of.ensures)) ∙ c.loop.invariant
+    sym (inside_on (view c.args.self.now) c.args.op c.loop.at (n - i) (n - (i + 1)) e c.in-Some.owner c.in-Some-get_container.home (sym c.in-Some.ensures) c.if-owner-op.false (sym c.in-Some-get_container.ensures)) ∙ c.loop.invariant
 
 pub returns : goal.returns
 returns c =

@@ -2,7 +2,7 @@ use Rattle.std.proofs.Common.{[], ◌∷◌, map, length, set, sym, ap, ◌∙�
 use Rattle.std.proofs.lemmas.List.{length-set}
 use Rattle.slots.specs.Cells.{cell_at, is_free, next_of, viewed, Live, cells}
 use Rattle.row.specs.Items.{row_items}
-use Rattle.slots.proofs.CellLaws.{cell_at_viewed, free_viewed, next_viewed}
+use Rattle.slots.proofs.CellLaws.{cell_at_viewed, free_viewed, next_viewed, next_of_given}
 use Rattle.lists.specs.Lists.{nodes, containers, members, home}
 use Rattle.model.specs.Calls.{opened}
 use Rattle.model.proofs.Opens.{length_opened}
@@ -16,7 +16,7 @@ returns c =
     let cs = cells t.operations in
     let s = c.args.slot in
     let h = c.open_regions-regions.ensures in
-    let is = ap (λ g. record { slot = s; generation = g }) (c.next_generation-generation.ensures ∙ sym (ap next_of (cell_at_viewed view_op cs s) ∙ next_viewed view_op (cell_at cs s))) in
+    let is = ap (λ g. record { slot = s; generation = g }) (next_of_given (cell_at cs s) _ (sym c.next_generation.ensures ∙ c.unwrap-generation.ensures) ∙ sym (ap next_of (cell_at_viewed view_op cs s) ∙ next_viewed view_op (cell_at cs s))) in
     record {
       made = record {
         slots = h.slots;

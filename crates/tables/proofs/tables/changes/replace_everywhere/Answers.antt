@@ -1,30 +1,24 @@
-use Rattle.std.proofs.Common.{◌<◌, ◌≤◌, ◌++◌, map, length, drop, ap, ◌∙◌, arith}
+use Rattle.std.proofs.Common.{◌<◌, map, length, set, sym, ap, ◌∙◌, arith}
 use Rattle.std.proofs.lemmas.List.Edits.{map_over_more}
-use Rattle.std.proofs.lemmas.List.{length-map, take_all, drop_all, append-nil, get_or_default}
-use Rattle.slots.specs.Cells.{viewed, cell_at, cells}
+use Rattle.std.proofs.lemmas.List.{length-map, length-set, map-set, get_or-map}
+use Rattle.slots.specs.Cells.{viewed, cell_of}
 use Rattle.model.specs.Calls.{reused}
 use Rattle.tables.specs.View.{view_op}
 use Rattle.tables.proofs.tables.changes.replace_everywhere.Goals as goal
 
 pub loop-slot-preserved : goal.loop-slot-preserved
 loop-slot-preserved c =
-    let xs = map (viewed view_op) (cells c.args.operations.now) in
-    let ys = map (viewed view_op) (cells c.loop-slot.operations) in
-    let i = c.loop-slot.slot in
+    let i = c.loop-slot.slot-index in
+    let items = c.loop-slot.slot-items in
+    let xs = map (viewed view_op) (map cell_of c.deref_mut-slot-items.result.now) in
+    let ys = map (viewed view_op) (map cell_of items) in
     let G = viewed (reused c.args.old c.args.new) in
-    let lt : i < length xs = omega (arith, length-map (cells c.args.operations.now) (viewed view_op)) in
-    let lty : i < length ys = omega (arith, length-map (cells c.loop-slot.operations) (viewed view_op), c.loop-slot.invariant.1) in (
-      c.replace_in.ensures.after ∙ map_over_more G xs ys i (cell_at ys i) lt c.loop-slot.invariant.0 (get_or_default ys i _ _ lty),
-      c.replace_in.ensures.len ∙ c.loop-slot.invariant.1,
+    let v = viewed view_op (cell_of c.slot-item.result) in
+    let few : i < length items = omega (arith, c.loop-slot.invariant.1) in
+    let lt : i < length xs = omega (arith, length-map (map cell_of c.deref_mut-slot-items.result.now) (viewed view_op), length-map c.deref_mut-slot-items.result.now cell_of) in
+    let lty : i < length (map cell_of items) = omega (arith, length-map items cell_of) in
+    let here = get_or-map (viewed view_op) (map cell_of items) i (cell_of c.slot-item.result) v lty ∙ ap (viewed view_op) (get_or-map cell_of items i c.slot-item.result (cell_of c.slot-item.result) few ∙ ap cell_of (sym c.slot-item.is)) in (
+      ap (map (viewed view_op)) (map-set cell_of items i _) ∙ map-set (viewed view_op) (map cell_of items) i _ ∙ ap (set ys i) (c.replace_in.ensures ∙ ap (λ s. G (viewed view_op (cell_of s))) (sym c.slot-item.is))
+      ∙ map_over_more G xs ys i v lt c.loop-slot.invariant.0 (sym here),
+      length-set items i _ ∙ c.loop-slot.invariant.1,
     )
-
-pub returns : goal.returns
-returns c =
-    let xs = map (viewed view_op) (cells c.args.operations.now) in
-    let i = c.loop-slot.slot in
-    let G = viewed (reused c.args.old c.args.new) in
-    let le : length xs ≤ i = omega (arith, length-map (cells c.args.operations.now) (viewed view_op)) in
-    record {
-      cells = c.loop-slot.invariant.0 ∙ ap (λ zs. map G zs ++ drop i xs) (take_all i xs le) ∙ ap (λ zs. map G xs ++ zs) (drop_all i xs le) ∙ append-nil (map G xs);
-      len = c.loop-slot.invariant.1;
-    }

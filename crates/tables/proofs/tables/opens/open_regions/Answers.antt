@@ -10,10 +10,10 @@ use Rattle.tables.proofs.tables.opens.open_regions.Goals as goal
 pub loop-graph-init : goal.loop-graph-init
 loop-graph-init c =
     let cs = cells c.args.regions.now in
-    (subst (Opened cs cs c.args.owner []) (sym c.empty-ids.ensures) (opened_none cs c.args.owner), omega arith)
+    (subst (Opened cs cs c.args.owner []) (sym c.default-ids.ensures) (opened_none cs c.args.owner), omega arith)
 
-pub open_region-id-requires : goal.open_region-id-requires
-open_region-id-requires c = omega (arith, c.loop-graph.invariant.1, c.requires.room)
+pub open_region-requires : goal.open_region-requires
+open_region-requires c = omega (arith, c.loop-graph.invariant.1, c.requires.room)
 
 pub push-requires : goal.push-requires
 push-requires c =
@@ -26,7 +26,7 @@ pub loop-graph-preserved : goal.loop-graph-preserved
 loop-graph-preserved c =
     let ms = c.args.marks.now in
     let i = c.loop-graph.graph-index in
-    let o = c.open_region-id in (
+    let o = c.open_region in (
       subst (λ gs. Opened (cells c.args.regions.now) (cells o.new.regions) c.args.owner gs (row_items c.push.new.self)) (sym (take_more ms i _ c.loop-graph-test.true))
           (subst (Opened (cells c.args.regions.now) (cells o.new.regions) c.args.owner _) (sym c.push.ensures)
           (opened_more _ _ _ c.args.owner _ _ o.result.slot o.result.generation _ c.loop-graph.invariant.0 o.ensures.free o.ensures.next o.ensures.cells)),
