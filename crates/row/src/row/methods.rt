@@ -1,5 +1,5 @@
 ghost use Rattle.std.specs.Prelude.{◌≡◌, ℕ, ◌+◌, ◌-◌, ◌<◌, ◌≤◌, true, cond, [], ◌∷◌, ◌++◌, length, is_some, MatchOption, nat_lt, slice_index_or, slice_set};
-ghost use Rattle.std.specs.List.{remove, slice_get};
+ghost use Rattle.std.specs.List.{AllZip, remove, slice_get};
 ghost use Rattle.row.specs.Items.{row_items};
 
 use super::Row;
@@ -55,6 +55,16 @@ impl<T: Copy, const N: usize> Row<T, N> {
         self.items.copy_within(i + 1..self.len, i);
         self.len -= 1;
         Some(x)
+    }
+
+    /// Each element becomes what `f` gives for it.
+    pub fn update<F: Fn(T) -> T>(&mut self, f: F)
+        requires { F.IsAlwaysCallable f }
+        ensures { AllZip (F.post f) (row_items self.old) (row_items self.new) }
+    {
+        for item in &mut self.items[..self.len] {
+            *item = f(*item);
+        }
     }
 
     // Old name, goes when no crate calls it.
