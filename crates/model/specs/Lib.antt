@@ -9,3 +9,4 @@ pub mod Frames
 pub mod Walk
 pub mod Numbers
 pub mod Nodes
+pub mod Refusals
