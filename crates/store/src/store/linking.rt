@@ -11,6 +11,7 @@ use model::ids::{BlockId, OpId};
 use model::points::{BlockInsertionPoint, OpInsertionPoint};
 use model::refusal::Refusal;
 use row::Row;
+use std::convert::TryFrom;
 
 impl Store {
     /// May a block be made at `point`? If not, why.
@@ -26,7 +27,7 @@ impl Store {
         ensures { Created (meaning self.old) (meaning self.new) point arg_types.now result }
     {
         let slot = self.tables.blocks.free_slot().unwrap();
-        let arguments = Row::from_slice(0, arg_types).unwrap();
+        let arguments = Row::try_from(arg_types).unwrap();
         self.tables.create(slot, point, arguments)
     }
 

@@ -12,7 +12,7 @@ use model::limits::{BLOCKS, OPERATIONS, REGIONS};
 use model::refusal::Refusal;
 use row::Row;
 use std::alloc::{AllocError, Global};
-use tables::records::NO_VALUE;
+use std::convert::TryFrom;
 use tables::tables::Tables;
 
 impl Store {
@@ -39,8 +39,8 @@ impl Store {
     {
         self.tables.check_make(operands, result_types, regions)?;
         let slot = self.tables.operations.free_slot().unwrap();
-        let operand_row = Row::from_slice(NO_VALUE, operands).unwrap();
-        let result_row = Row::from_slice(0, result_types).unwrap();
+        let operand_row = Row::try_from(operands).unwrap();
+        let result_row = Row::try_from(result_types).unwrap();
         let made = self
             .tables
             .make(slot, kind, note, operand_row, result_row, regions);

@@ -1,7 +1,7 @@
 //! Whether an operation may go elsewhere, and where it is.
 ghost use Rattle.std.specs.Prelude.{◌≡◌};
 ghost use Rattle.model.specs.Calls.{unlink_refusal};
-ghost use Rattle.model.specs.Moving.{names, same_slot, move_refusal, old_place};
+ghost use Rattle.model.specs.Moving.{names, move_refusal, old_place};
 ghost use Rattle.model.specs.Refusals.{verdict};
 ghost use Rattle.store.specs.Meaning.{meaning};
 
@@ -19,16 +19,6 @@ fn is_at(point: OpInsertionPoint, op: OpId) -> bool
             mark.slot == op.slot
         }
         _ => false,
-    }
-}
-
-/// Is it this slot?
-fn is_slot(found: Option<usize>, slot: usize) -> bool
-    ensures { result ≡ same_slot found slot }
-{
-    match found {
-        Some(other) => other == slot,
-        None => false,
     }
 }
 
@@ -50,7 +40,7 @@ impl Store {
         if point.is_unset() {
             return Err(Refusal::PointUnset);
         }
-        if self.tables.home_of(op.slot).is_none() || is_at(point, op) {
+        if self.tables.op_lists.get_container(op.slot).is_none() || is_at(point, op) {
             return Err(Refusal::NoBlock);
         }
         let Some(block) = self.tables.block_at(point) else {
@@ -66,16 +56,16 @@ impl Store {
     pub fn old_place(&self, op: OpId) -> OpInsertionPoint
         ensures { result ≡ old_place (meaning self.now) op }
     {
-        let Some(block) = self.tables.home_of(op.slot) else {
+        let Some(block) = self.tables.op_lists.get_container(op.slot) else {
             return OpInsertionPoint::Unset;
         };
-        if is_slot(self.tables.first_op(block), op.slot) {
+        if self.tables.op_lists.get_head(block) == Some(op.slot) {
             return OpInsertionPoint::AtBlockStart(self.tables.block_id(block));
         }
-        if is_slot(self.tables.last_op(block), op.slot) {
+        if self.tables.op_lists.get_tail(block) == Some(op.slot) {
             return OpInsertionPoint::AtBlockEnd(self.tables.block_id(block));
         }
-        match self.tables.prev_of(op.slot) {
+        match self.tables.op_lists.get_prev(op.slot) {
             Some(previous) => OpInsertionPoint::AfterOperation(self.tables.op_id(previous)),
             None => OpInsertionPoint::Unset,
         }

@@ -10,17 +10,16 @@ use crate::store::Store;
 use model::ids::{BlockId, DefiningEntity, OpId, RegionId, Value};
 use model::limits::MAX_RESULTS;
 use row::Row;
-use tables::records::NO_VALUE;
 
 /// The first `count` results of `op`.
 fn first_results(op: OpId, count: usize) -> Row<Value, MAX_RESULTS>
     requires { count ≤ 4 }
     ensures { row_items result ≡ results_from op 0 count }
 {
-    let mut values: Row<Value, MAX_RESULTS> = Row::empty(NO_VALUE);
+    let mut values = Row::default();
     for index in 0..count {
         values.push(Value {
-            definer: DefiningEntity::Op(op),
+            definer: op.into(),
             index: index as u8,
         });
     }
@@ -32,40 +31,28 @@ impl Store {
     pub fn kind(&self, op: OpId) -> Option<u16>
         ensures { result ≡ option_map (λ x. x.kind) (find_op (meaning self.now) op) }
     {
-        match self.tables.operation(op) {
-            Some(operation) => Some(operation.kind),
-            None => None,
-        }
+        self.tables.operation(op).map(|operation| operation.kind)
     }
 
     /// The note of an operation.
     pub fn note(&self, op: OpId) -> Option<u32>
         ensures { result ≡ option_map (λ x. x.note) (find_op (meaning self.now) op) }
     {
-        match self.tables.operation(op) {
-            Some(operation) => Some(operation.note),
-            None => None,
-        }
+        self.tables.operation(op).map(|operation| operation.note)
     }
 
     /// The operands of an operation.
     pub fn operands(&self, op: OpId) -> Option<&[Value]>
         ensures { option_map (λ x. x.now) result ≡ option_map (λ x. x.operands) (find_op (meaning self.now) op) }
     {
-        match self.tables.operation(op) {
-            Some(operation) => Some(operation.operands.as_slice()),
-            None => None,
-        }
+        self.tables.operation(op).map(|operation| operation.operands.as_slice())
     }
 
     /// The types of the results of an operation.
     pub fn result_types(&self, op: OpId) -> Option<&[u32]>
         ensures { option_map (λ x. x.now) result ≡ option_map (λ x. x.results) (find_op (meaning self.now) op) }
     {
-        match self.tables.operation(op) {
-            Some(operation) => Some(operation.results.as_slice()),
-            None => None,
-        }
+        self.tables.operation(op).map(|operation| operation.results.as_slice())
     }
 
     /// The results of an operation, as values: none where it is not live.
@@ -74,7 +61,7 @@ impl Store {
     {
         match self.tables.operation(op) {
             Some(operation) => first_results(op, operation.results.len()),
-            None => Row::empty(NO_VALUE),
+            None => Row::default(),
         }
     }
 
@@ -82,10 +69,7 @@ impl Store {
     pub fn regions(&self, op: OpId) -> Option<&[RegionId]>
         ensures { option_map (λ x. x.now) result ≡ option_map (λ x. x.regions) (find_op (meaning self.now) op) }
     {
-        match self.tables.operation(op) {
-            Some(operation) => Some(operation.regions.as_slice()),
-            None => None,
-        }
+        self.tables.operation(op).map(|operation| operation.regions.as_slice())
     }
 
     /// The type of a value.
@@ -107,7 +91,7 @@ impl Store {
         ensures { result ≡ parent_block_of (meaning self.now) op }
     {
         self.tables.operation(op)?;
-        let slot = self.tables.home_of(op.slot)?;
+        let slot = self.tables.op_lists.get_container(op.slot)?;
         Some(self.tables.block_id(slot))
     }
 
@@ -116,7 +100,7 @@ impl Store {
         ensures { result ≡ next_op_of (meaning self.now) op }
     {
         self.tables.operation(op)?;
-        let slot = self.tables.next_of(op.slot)?;
+        let slot = self.tables.op_lists.get_next(op.slot)?;
         Some(self.tables.op_id(slot))
     }
 
@@ -125,7 +109,7 @@ impl Store {
         ensures { result ≡ prev_op_of (meaning self.now) op }
     {
         self.tables.operation(op)?;
-        let slot = self.tables.prev_of(op.slot)?;
+        let slot = self.tables.op_lists.get_prev(op.slot)?;
         Some(self.tables.op_id(slot))
     }
 }

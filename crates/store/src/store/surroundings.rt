@@ -12,10 +12,9 @@ impl Store {
     pub fn argument_types(&self, block: BlockId) -> Option<&[u32]>
         ensures { option_map (λ x. x.now) result ≡ option_map (λ x. x.args) (find_block (meaning self.now) block) }
     {
-        match self.tables.basic_block(block) {
-            Some(basic_block) => Some(basic_block.arguments.as_slice()),
-            None => None,
-        }
+        self.tables
+            .basic_block(block)
+            .map(|basic_block| basic_block.arguments.as_slice())
     }
 
     /// The region that a block lies in.
@@ -23,7 +22,7 @@ impl Store {
         ensures { result ≡ parent_region_of (meaning self.now) block }
     {
         self.tables.basic_block(block)?;
-        let slot = self.tables.place_of(block.slot)?;
+        let slot = self.tables.block_lists.get_container(block.slot)?;
         Some(self.tables.region_id(slot))
     }
 
@@ -32,7 +31,7 @@ impl Store {
         ensures { result ≡ next_block_of (meaning self.now) block }
     {
         self.tables.basic_block(block)?;
-        let slot = self.tables.next_block_of(block.slot)?;
+        let slot = self.tables.block_lists.get_next(block.slot)?;
         Some(self.tables.block_id(slot))
     }
 
@@ -41,7 +40,7 @@ impl Store {
         ensures { result ≡ prev_block_of (meaning self.now) block }
     {
         self.tables.basic_block(block)?;
-        let slot = self.tables.prev_block_of(block.slot)?;
+        let slot = self.tables.block_lists.get_prev(block.slot)?;
         Some(self.tables.block_id(slot))
     }
 
@@ -50,7 +49,7 @@ impl Store {
         ensures { result ≡ first_op_of (meaning self.now) block }
     {
         self.tables.basic_block(block)?;
-        let slot = self.tables.first_op(block.slot)?;
+        let slot = self.tables.op_lists.get_head(block.slot)?;
         Some(self.tables.op_id(slot))
     }
 
@@ -59,7 +58,7 @@ impl Store {
         ensures { result ≡ last_op_of (meaning self.now) block }
     {
         self.tables.basic_block(block)?;
-        let slot = self.tables.last_op(block.slot)?;
+        let slot = self.tables.op_lists.get_tail(block.slot)?;
         Some(self.tables.op_id(slot))
     }
 
@@ -67,20 +66,14 @@ impl Store {
     pub fn is_graph(&self, region: RegionId) -> Option<bool>
         ensures { result ≡ option_map (λ x. x.graph) (find_region (meaning self.now) region) }
     {
-        match self.tables.region(region) {
-            Some(record) => Some(record.graph),
-            None => None,
-        }
+        self.tables.region(region).map(|record| record.graph)
     }
 
     /// The operation that a region belongs to.
     pub fn get_parent_op(&self, region: RegionId) -> Option<OpId>
         ensures { result ≡ owner_of (find_region (meaning self.now) region) }
     {
-        match self.tables.region(region) {
-            Some(record) => Some(record.owner),
-            None => None,
-        }
+        self.tables.region(region).map(|record| record.owner)
     }
 
     /// The first block of a region.
@@ -88,7 +81,7 @@ impl Store {
         ensures { result ≡ first_block_of (meaning self.now) region }
     {
         self.tables.region(region)?;
-        let slot = self.tables.first_block(region.slot)?;
+        let slot = self.tables.block_lists.get_head(region.slot)?;
         Some(self.tables.block_id(slot))
     }
 
@@ -97,7 +90,7 @@ impl Store {
         ensures { result ≡ last_block_of (meaning self.now) region }
     {
         self.tables.region(region)?;
-        let slot = self.tables.last_block(region.slot)?;
+        let slot = self.tables.block_lists.get_tail(region.slot)?;
         Some(self.tables.block_id(slot))
     }
 }
