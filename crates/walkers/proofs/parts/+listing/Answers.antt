@@ -17,9 +17,9 @@ use Rattle.walkers.proofs.parts.+listing.Goals as goal
 pub list_body-loop-cursor-init : goal.list_body-loop-cursor-init
 list_body-loop-cursor-init t c =
     let m = view c.args.tables.now in
-    let first = c.last_op-cursor.ensures ∙ last_first (m.ops_of c.args.block) in (
-      at_first (λ b. reverse (m.ops_of b)) c.args.block c.last_op-cursor.result first,
-      linked_start (op_nodes m) (nodes_in c.args.nodes.now) (reverse (m.ops_of c.args.block)) c.last_op-cursor.result first,
+    let first = c.get_tail-cursor.ensures ∙ last_first (m.ops_of c.args.block) in (
+      at_first (λ b. reverse (m.ops_of b)) c.args.block c.get_tail-cursor.result first,
+      linked_start (op_nodes m) (nodes_in c.args.nodes.now) (reverse (m.ops_of c.args.block)) c.get_tail-cursor.result first,
     )
 
 pub list_body-list_op-requires : goal.list_body-list_op-requires
@@ -34,15 +34,15 @@ list_body-list_op-requires t c =
 pub list_body-loop-cursor-smaller : goal.list_body-loop-cursor-smaller
 list_body-loop-cursor-smaller t c =
     let m = view c.args.tables.now in
-    linked_less (λ b. reverse (m.ops_of b)) m.home_of (agree_reverse m.ops_of m.home_of c.requires.sound.ops) c.args.block c.in-Some.op c.loop-cursor.cursor c.prev_of-cursor.result c.in-Some.is c.loop-cursor.invariant.0 (c.prev_of-cursor.ensures ∙ prev_next m.ops_of m.home_of c.requires.sound.ops c.in-Some.op)
+    linked_less (λ b. reverse (m.ops_of b)) m.home_of (agree_reverse m.ops_of m.home_of c.requires.sound.ops) c.args.block c.in-Some.op c.loop-cursor.cursor c.get_prev-cursor.result c.in-Some.is c.loop-cursor.invariant.0 (c.get_prev-cursor.ensures ∙ prev_next m.ops_of m.home_of c.requires.sound.ops c.in-Some.op)
 
 pub list_body-loop-cursor-preserved : goal.list_body-loop-cursor-preserved
 list_body-loop-cursor-preserved t c =
     let m = view c.args.tables.now in
     let agree = agree_reverse m.ops_of m.home_of c.requires.sound.ops in
-    let next = c.prev_of-cursor.ensures ∙ prev_next m.ops_of m.home_of c.requires.sound.ops c.in-Some.op in (
-      at_next (λ b. reverse (m.ops_of b)) m.home_of agree c.args.block c.in-Some.op c.loop-cursor.cursor c.prev_of-cursor.result c.in-Some.is c.loop-cursor.invariant.0 next,
-      linked_turn (λ b. reverse (m.ops_of b)) m.home_of agree c.args.block c.in-Some.op c.loop-cursor.cursor c.prev_of-cursor.result c.in-Some.is c.loop-cursor.invariant.0 next (op_nodes m) (nodes_in c.loop-cursor.nodes) (nodes_in c.args.nodes.now) c.loop-cursor.invariant.1 (nodes_in c.list_op.new.nodes) c.list_op.ensures,
+    let next = c.get_prev-cursor.ensures ∙ prev_next m.ops_of m.home_of c.requires.sound.ops c.in-Some.op in (
+      at_next (λ b. reverse (m.ops_of b)) m.home_of agree c.args.block c.in-Some.op c.loop-cursor.cursor c.get_prev-cursor.result c.in-Some.is c.loop-cursor.invariant.0 next,
+      linked_turn (λ b. reverse (m.ops_of b)) m.home_of agree c.args.block c.in-Some.op c.loop-cursor.cursor c.get_prev-cursor.result c.in-Some.is c.loop-cursor.invariant.0 next (op_nodes m) (nodes_in c.loop-cursor.nodes) (nodes_in c.args.nodes.now) c.loop-cursor.invariant.1 (nodes_in c.list_op.new.nodes) c.list_op.ensures,
     )
 
 pub list_op-list_regions-requires : goal.list_op-list_regions-requires
@@ -74,9 +74,9 @@ list_op-returns t c =
 pub list_region-loop-cursor-init : goal.list_region-loop-cursor-init
 list_region-loop-cursor-init t c =
     let m = view c.args.tables.now in
-    let first = c.last_block-cursor.ensures ∙ last_first (m.blocks_of c.args.region) in (
-      at_first (λ r. reverse (m.blocks_of r)) c.args.region c.last_block-cursor.result first,
-      linked_start (body_nodes m (op_nodes m)) (nodes_in c.args.nodes.now) (reverse (m.blocks_of c.args.region)) c.last_block-cursor.result first,
+    let first = c.get_tail-cursor.ensures ∙ last_first (m.blocks_of c.args.region) in (
+      at_first (λ r. reverse (m.blocks_of r)) c.args.region c.get_tail-cursor.result first,
+      linked_start (body_nodes m (op_nodes m)) (nodes_in c.args.nodes.now) (reverse (m.blocks_of c.args.region)) c.get_tail-cursor.result first,
     )
 
 pub list_region-list_body-requires : goal.list_region-list_body-requires
@@ -97,15 +97,15 @@ list_region-list_body-requires t c =
 pub list_region-loop-cursor-smaller : goal.list_region-loop-cursor-smaller
 list_region-loop-cursor-smaller t c =
     let m = view c.args.tables.now in
-    linked_less (λ k. reverse (m.blocks_of k)) m.place_of (agree_reverse m.blocks_of m.place_of c.requires.sound.blocks) c.args.region c.in-Some.block c.loop-cursor.cursor c.prev_block_of-cursor.result c.in-Some.is c.loop-cursor.invariant.0 (c.prev_block_of-cursor.ensures ∙ prev_next m.blocks_of m.place_of c.requires.sound.blocks c.in-Some.block)
+    linked_less (λ k. reverse (m.blocks_of k)) m.place_of (agree_reverse m.blocks_of m.place_of c.requires.sound.blocks) c.args.region c.in-Some.block c.loop-cursor.cursor c.get_prev-cursor.result c.in-Some.is c.loop-cursor.invariant.0 (c.get_prev-cursor.ensures ∙ prev_next m.blocks_of m.place_of c.requires.sound.blocks c.in-Some.block)
 
 pub list_region-loop-cursor-preserved : goal.list_region-loop-cursor-preserved
 list_region-loop-cursor-preserved t c =
     let m = view c.args.tables.now in
     let agree = agree_reverse m.blocks_of m.place_of c.requires.sound.blocks in
-    let next = c.prev_block_of-cursor.ensures ∙ prev_next m.blocks_of m.place_of c.requires.sound.blocks c.in-Some.block in (
-      at_next (λ k. reverse (m.blocks_of k)) m.place_of agree c.args.region c.in-Some.block c.loop-cursor.cursor c.prev_block_of-cursor.result c.in-Some.is c.loop-cursor.invariant.0 next,
-      linked_turn (λ k. reverse (m.blocks_of k)) m.place_of agree c.args.region c.in-Some.block c.loop-cursor.cursor c.prev_block_of-cursor.result c.in-Some.is c.loop-cursor.invariant.0 next (body_nodes m (op_nodes m)) (nodes_in c.loop-cursor.nodes) (nodes_in c.args.nodes.now) c.loop-cursor.invariant.1 (nodes_in c.list_body.new.nodes) c.list_body.ensures,
+    let next = c.get_prev-cursor.ensures ∙ prev_next m.blocks_of m.place_of c.requires.sound.blocks c.in-Some.block in (
+      at_next (λ k. reverse (m.blocks_of k)) m.place_of agree c.args.region c.in-Some.block c.loop-cursor.cursor c.get_prev-cursor.result c.in-Some.is c.loop-cursor.invariant.0 next,
+      linked_turn (λ k. reverse (m.blocks_of k)) m.place_of agree c.args.region c.in-Some.block c.loop-cursor.cursor c.get_prev-cursor.result c.in-Some.is c.loop-cursor.invariant.0 next (body_nodes m (op_nodes m)) (nodes_in c.loop-cursor.nodes) (nodes_in c.args.nodes.now) c.loop-cursor.invariant.1 (nodes_in c.list_body.new.nodes) c.list_body.ensures,
     )
 
 pub list_region-list_edge-requires : goal.list_region-list_edge-requires

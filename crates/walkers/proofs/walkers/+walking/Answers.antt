@@ -24,13 +24,13 @@ walk_block-walk_op-requires t c =
 pub walk_block-loop-cursor-smaller : goal.walk_block-loop-cursor-smaller
 walk_block-loop-cursor-smaller t c =
     let m = view c.args.tables.now in
-    linked_less m.ops_of m.home_of c.requires.sound.ops c.args.block c.in-Some.op c.loop-cursor.cursor c.next_of-cursor.result c.in-Some.is c.loop-cursor.invariant.0 c.next_of-cursor.ensures
+    linked_less m.ops_of m.home_of c.requires.sound.ops c.args.block c.in-Some.op c.loop-cursor.cursor c.get_next-cursor.result c.in-Some.is c.loop-cursor.invariant.0 c.get_next-cursor.ensures
 
 pub walk_block-loop-cursor-preserved : goal.walk_block-loop-cursor-preserved
 walk_block-loop-cursor-preserved t c =
     let m = view c.args.tables.now in (
-      at_next m.ops_of m.home_of c.requires.sound.ops c.args.block c.in-Some.op c.loop-cursor.cursor c.next_of-cursor.result c.in-Some.is c.loop-cursor.invariant.0 c.next_of-cursor.ensures,
-      linked_turn m.ops_of m.home_of c.requires.sound.ops c.args.block c.in-Some.op c.loop-cursor.cursor c.next_of-cursor.result c.in-Some.is c.loop-cursor.invariant.0 c.next_of-cursor.ensures (walk m) (nodes_in c.loop-cursor.nodes) (nodes_in c.push.new.self) c.loop-cursor.invariant.1 (nodes_in c.walk_op.new.nodes) c.walk_op.ensures,
+      at_next m.ops_of m.home_of c.requires.sound.ops c.args.block c.in-Some.op c.loop-cursor.cursor c.get_next-cursor.result c.in-Some.is c.loop-cursor.invariant.0 c.get_next-cursor.ensures,
+      linked_turn m.ops_of m.home_of c.requires.sound.ops c.args.block c.in-Some.op c.loop-cursor.cursor c.get_next-cursor.result c.in-Some.is c.loop-cursor.invariant.0 c.get_next-cursor.ensures (walk m) (nodes_in c.loop-cursor.nodes) (nodes_in c.push.new.self) c.loop-cursor.invariant.1 (nodes_in c.walk_op.new.nodes) c.walk_op.ensures,
     )
 
 pub walk_block-returns : goal.walk_block-returns
@@ -86,11 +86,11 @@ walk_region-walk_block-requires t c =
 pub walk_region-loop-cursor-smaller : goal.walk_region-loop-cursor-smaller
 walk_region-loop-cursor-smaller t c =
     let m = view c.args.tables.now in
-    linked_less m.blocks_of m.place_of c.requires.sound.blocks c.args.region c.in-Some.block c.loop-cursor.cursor c.next_block_of-cursor.result c.in-Some.is c.loop-cursor.invariant.0 c.next_block_of-cursor.ensures
+    linked_less m.blocks_of m.place_of c.requires.sound.blocks c.args.region c.in-Some.block c.loop-cursor.cursor c.get_next-cursor.result c.in-Some.is c.loop-cursor.invariant.0 c.get_next-cursor.ensures
 
 pub walk_region-loop-cursor-preserved : goal.walk_region-loop-cursor-preserved
 walk_region-loop-cursor-preserved t c =
     let m = view c.args.tables.now in (
-      at_next m.blocks_of m.place_of c.requires.sound.blocks c.args.region c.in-Some.block c.loop-cursor.cursor c.next_block_of-cursor.result c.in-Some.is c.loop-cursor.invariant.0 c.next_block_of-cursor.ensures,
-      linked_turn m.blocks_of m.place_of c.requires.sound.blocks c.args.region c.in-Some.block c.loop-cursor.cursor c.next_block_of-cursor.result c.in-Some.is c.loop-cursor.invariant.0 c.next_block_of-cursor.ensures (block_by m (walk m)) (nodes_in c.loop-cursor.nodes) (nodes_in c.args.nodes.now) c.loop-cursor.invariant.1 (nodes_in c.walk_block.new.nodes) c.walk_block.ensures,
+      at_next m.blocks_of m.place_of c.requires.sound.blocks c.args.region c.in-Some.block c.loop-cursor.cursor c.get_next-cursor.result c.in-Some.is c.loop-cursor.invariant.0 c.get_next-cursor.ensures,
+      linked_turn m.blocks_of m.place_of c.requires.sound.blocks c.args.region c.in-Some.block c.loop-cursor.cursor c.get_next-cursor.result c.in-Some.is c.loop-cursor.invariant.0 c.get_next-cursor.ensures (block_by m (walk m)) (nodes_in c.loop-cursor.nodes) (nodes_in c.args.nodes.now) c.loop-cursor.invariant.1 (nodes_in c.walk_block.new.nodes) c.walk_block.ensures,
     )
