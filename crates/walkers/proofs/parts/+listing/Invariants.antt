@@ -1,5 +1,7 @@
-use Rattle.std.proofs.Common.{◌≡◌, ◌+◌, ◌*◌, ◌≤◌, ◌++◌, reverse, length, take}
+use Rattle.std.proofs.Common.{◌≡◌, ◌+◌, ◌*◌, ◌≤◌, ◌++◌, reverse, length, drop}
 use Rattle.std.specs.List.{flat_map}
+use Rattle.std.specs.Iterator.Adapters.{rev_source}
+use Rattle.std.specs.Slice.Iter.{iter_rest}
 use Rattle.model.specs.Walk.{slots_of_regions}
 use Rattle.model.specs.Erasing.{body_nodes, region_nodes, op_nodes}
 use Rattle.tables.specs.View.{view}
@@ -37,11 +39,7 @@ invariant-list_region-loop-cursor l =
 abbrev pub decreases-list_region-loop-cursor : goal.decreases-list_region-loop-cursor
 decreases-list_region-loop-cursor l = length (rest_from l.cursor (reverse ((view l.tables).blocks_of l.region)))
 
-abbrev pub invariant-list_regions-loop-left : goal.invariant-list_regions-loop-left
-invariant-list_regions-loop-left l =
-    (l.left ≤ length l.regions)
-    × (length (flat_map (region_in l.tables) (reverse (take l.left l.regions))) ≤ length (flat_map (region_in l.tables) (reverse l.regions)))
-    × (nodes_in l.nodes ++ flat_map (region_in l.tables) (reverse (take l.left l.regions)) ≡ nodes_in l.initial.nodes ++ flat_map (region_in l.tables) (reverse l.regions))
-
-abbrev pub decreases-list_regions-loop-left : goal.decreases-list_regions-loop-left
-decreases-list_regions-loop-left l = l.left
+abbrev pub invariant-list_regions-loop-region : goal.invariant-list_regions-loop-region
+invariant-list_regions-loop-region l =
+    nodes_in l.nodes ++ flat_map (region_in l.tables) (drop (length l.yielded) (reverse (iter_rest (rev_source l.initial.region-iterator)))) 
+    ≡ nodes_in l.initial.nodes ++ flat_map (region_in l.tables) (reverse (iter_rest (rev_source l.initial.region-iterator)))
