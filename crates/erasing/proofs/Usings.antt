@@ -3,9 +3,8 @@ use Rattle.std.proofs.Common.{◌≡◌, ℕ, suc, ◌+◌, ◌<◌, Bool, true,
 use Rattle.std.specs.List.{list_any, range_with_len, fold, zip}
 use Rattle.std.specs.Option.{option_map}
 use Rattle.slots.specs.Cells.{Cell}
-use Rattle.slots.specs.Cells.{Free, Live, Spent}
-use Rattle.slots.specs.Cells.{cells, cell_at, holds, viewed}
-use Rattle.slots.proofs.CellLaws.{cell_at_viewed}
+use Rattle.slots.specs.Cells.{cells, cell_at, holds}
+use Rattle.slots.proofs.CellLaws.{cell_at_viewed, holds_viewed}
 use Rattle.row.specs.Items.{row_items}
 use Rattle.tables.specs.declared.records.Operation as record_of
 use Rattle.tables.specs.declared.tables.Tables.{Tables}
@@ -59,11 +58,6 @@ used_any ns t (c ∷ cs) i h =
 
 pub used_all : (ns : List IRNode) (cs : List (Cell Operation)) → list_any (λ s. uses_out ns s (cell_at cs s)) (range_with_len 0 (length cs)) ≡ used_from ns 0 cs
 used_all ns cs = used_any ns (λ s. uses_out ns s (cell_at cs s)) cs 0 (λ k le. let e : k + 0 ≡ k = omega arith in ap (λ s. uses_out ns s (cell_at cs s)) e ∙ ap (λ s. uses_out ns s (cell_at cs k)) (sym e))
-
-holds_viewed : {X Y : Type 0} (f : X → Y) (c : Cell X) → holds (viewed f c) ≡ option_map f (holds c)
-holds_viewed f (Free g) = refl
-holds_viewed f (Live g x) = refl
-holds_viewed f Spent = refl
 
 -- b, unless h
 pub false_unless : (h b : Bool) → false ≡ b → false ≡ cond h false b

@@ -15,16 +15,13 @@ use Rattle.model.proofs.Backward.{agree_reverse, last_first, prev_next}
 use Rattle.tables.specs.View.{view}
 use Rattle.walkers.specs.Listed.{nodes_in, Room}
 use Rattle.walkers.proofs.Backs.{region_in, behind, both, first_room, second_room, edge_is, listed_some, listed_none}
-use Rattle.walkers.proofs.Turns.{slice_few, slice_room, slice_turn, slice_end, at_first, at_next, linked_start, linked_end, linked_few, linked_less, linked_room, linked_turn}
+use Rattle.walkers.proofs.Turns.{slice_few, slice_room, slice_turn, slice_end, linked_from, linked_end, linked_few, linked_less, linked_on, linked_room}
 use Rattle.walkers.proofs.parts.+listing.Goals as goal
 
 pub list_body-loop-cursor-init : goal.list_body-loop-cursor-init
 list_body-loop-cursor-init t c =
     let m = view c.args.tables.now in
-    let first = c.get_tail-cursor.ensures ∙ last_first (m.ops_of c.args.block) in (
-      at_first (λ b. reverse (m.ops_of b)) c.args.block c.get_tail-cursor.result first,
-      linked_start (op_nodes m) (nodes_in c.args.nodes.now) (reverse (m.ops_of c.args.block)) c.get_tail-cursor.result first,
-    )
+    linked_from (λ b. reverse (m.ops_of b)) c.args.block (op_nodes m) (nodes_in c.args.nodes.now) c.get_tail-cursor.result (c.get_tail-cursor.ensures ∙ last_first (m.ops_of c.args.block))
 
 pub list_body-list_op-requires : goal.list_body-list_op-requires
 list_body-list_op-requires t c =
@@ -44,10 +41,8 @@ pub list_body-loop-cursor-preserved : goal.list_body-loop-cursor-preserved
 list_body-loop-cursor-preserved t c =
     let m = view c.args.tables.now in
     let agree = agree_reverse m.ops_of m.home_of c.requires.sound.ops in
-    let next = c.get_prev-cursor.ensures ∙ prev_next m.ops_of m.home_of c.requires.sound.ops c.in-Some.op in (
-      at_next (λ b. reverse (m.ops_of b)) m.home_of agree c.args.block c.in-Some.op c.loop-cursor.cursor c.get_prev-cursor.result c.in-Some.is c.loop-cursor.invariant.0 next,
-      linked_turn (λ b. reverse (m.ops_of b)) m.home_of agree c.args.block c.in-Some.op c.loop-cursor.cursor c.get_prev-cursor.result c.in-Some.is c.loop-cursor.invariant.0 next (op_nodes m) (nodes_in c.loop-cursor.nodes) (nodes_in c.args.nodes.now) c.loop-cursor.invariant.1 (nodes_in c.list_op.new.nodes) c.list_op.ensures,
-    )
+    let next = c.get_prev-cursor.ensures ∙ prev_next m.ops_of m.home_of c.requires.sound.ops c.in-Some.op in
+    linked_on (λ b. reverse (m.ops_of b)) m.home_of agree c.args.block c.in-Some.op c.loop-cursor.cursor c.get_prev-cursor.result c.in-Some.is c.loop-cursor.invariant.0 next (op_nodes m) (nodes_in c.loop-cursor.nodes) (nodes_in c.args.nodes.now) c.loop-cursor.invariant.1 (nodes_in c.list_op.new.nodes) c.list_op.ensures
 
 pub list_op-list_regions-requires : goal.list_op-list_regions-requires
 list_op-list_regions-requires t c =
@@ -78,10 +73,7 @@ list_op-returns t c =
 pub list_region-loop-cursor-init : goal.list_region-loop-cursor-init
 list_region-loop-cursor-init t c =
     let m = view c.args.tables.now in
-    let first = c.get_tail-cursor.ensures ∙ last_first (m.blocks_of c.args.region) in (
-      at_first (λ r. reverse (m.blocks_of r)) c.args.region c.get_tail-cursor.result first,
-      linked_start (body_nodes m (op_nodes m)) (nodes_in c.args.nodes.now) (reverse (m.blocks_of c.args.region)) c.get_tail-cursor.result first,
-    )
+    linked_from (λ r. reverse (m.blocks_of r)) c.args.region (body_nodes m (op_nodes m)) (nodes_in c.args.nodes.now) c.get_tail-cursor.result (c.get_tail-cursor.ensures ∙ last_first (m.blocks_of c.args.region))
 
 pub list_region-list_body-requires : goal.list_region-list_body-requires
 list_region-list_body-requires t c =
@@ -107,10 +99,8 @@ pub list_region-loop-cursor-preserved : goal.list_region-loop-cursor-preserved
 list_region-loop-cursor-preserved t c =
     let m = view c.args.tables.now in
     let agree = agree_reverse m.blocks_of m.place_of c.requires.sound.blocks in
-    let next = c.get_prev-cursor.ensures ∙ prev_next m.blocks_of m.place_of c.requires.sound.blocks c.in-Some.block in (
-      at_next (λ k. reverse (m.blocks_of k)) m.place_of agree c.args.region c.in-Some.block c.loop-cursor.cursor c.get_prev-cursor.result c.in-Some.is c.loop-cursor.invariant.0 next,
-      linked_turn (λ k. reverse (m.blocks_of k)) m.place_of agree c.args.region c.in-Some.block c.loop-cursor.cursor c.get_prev-cursor.result c.in-Some.is c.loop-cursor.invariant.0 next (body_nodes m (op_nodes m)) (nodes_in c.loop-cursor.nodes) (nodes_in c.args.nodes.now) c.loop-cursor.invariant.1 (nodes_in c.list_body.new.nodes) c.list_body.ensures,
-    )
+    let next = c.get_prev-cursor.ensures ∙ prev_next m.blocks_of m.place_of c.requires.sound.blocks c.in-Some.block in
+    linked_on (λ k. reverse (m.blocks_of k)) m.place_of agree c.args.region c.in-Some.block c.loop-cursor.cursor c.get_prev-cursor.result c.in-Some.is c.loop-cursor.invariant.0 next (body_nodes m (op_nodes m)) (nodes_in c.loop-cursor.nodes) (nodes_in c.args.nodes.now) c.loop-cursor.invariant.1 (nodes_in c.list_body.new.nodes) c.list_body.ensures
 
 pub list_region-list_edge-requires : goal.list_region-list_edge-requires
 list_region-list_edge-requires t c =

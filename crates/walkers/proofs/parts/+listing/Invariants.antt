@@ -8,7 +8,7 @@ use Rattle.tables.specs.View.{view}
 use Rattle.walkers.specs.Listed.{nodes_in}
 use Rattle.walkers.proofs.Places.{rest_from}
 use Rattle.walkers.proofs.Backs.{region_in}
-use Rattle.walkers.proofs.Turns.{At}
+use Rattle.walkers.proofs.Turns.{Midway}
 use Rattle.walkers.proofs.parts.+listing.Given as goal
 
 abbrev pub decreases-list_body : goal.decreases-list_body
@@ -25,16 +25,14 @@ decreases-list_regions l = 2 * length (flat_map (region_nodes (view l.tables.now
 
 abbrev pub invariant-list_body-loop-cursor : goal.invariant-list_body-loop-cursor
 invariant-list_body-loop-cursor l =
-    At (λ b. reverse ((view l.tables).ops_of b)) l.block l.cursor
-    × (nodes_in l.nodes ++ flat_map (op_nodes (view l.tables)) (rest_from l.cursor (reverse ((view l.tables).ops_of l.block))) ≡ nodes_in l.initial.nodes ++ flat_map (op_nodes (view l.tables)) (reverse ((view l.tables).ops_of l.block)))
+    Midway (λ b. reverse ((view l.tables).ops_of b)) l.block (op_nodes (view l.tables)) l.cursor (nodes_in l.nodes) (nodes_in l.initial.nodes)
 
 abbrev pub decreases-list_body-loop-cursor : goal.decreases-list_body-loop-cursor
 decreases-list_body-loop-cursor l = length (rest_from l.cursor (reverse ((view l.tables).ops_of l.block)))
 
 abbrev pub invariant-list_region-loop-cursor : goal.invariant-list_region-loop-cursor
 invariant-list_region-loop-cursor l =
-    At (λ r. reverse ((view l.tables).blocks_of r)) l.region l.cursor
-    × (nodes_in l.nodes ++ flat_map (body_nodes (view l.tables) (op_nodes (view l.tables))) (rest_from l.cursor (reverse ((view l.tables).blocks_of l.region))) ≡ nodes_in l.initial.nodes ++ flat_map (body_nodes (view l.tables) (op_nodes (view l.tables))) (reverse ((view l.tables).blocks_of l.region)))
+    Midway (λ r. reverse ((view l.tables).blocks_of r)) l.region (body_nodes (view l.tables) (op_nodes (view l.tables))) l.cursor (nodes_in l.nodes) (nodes_in l.initial.nodes)
 
 abbrev pub decreases-list_region-loop-cursor : goal.decreases-list_region-loop-cursor
 decreases-list_region-loop-cursor l = length (rest_from l.cursor (reverse ((view l.tables).blocks_of l.region)))
