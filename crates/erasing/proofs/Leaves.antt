@@ -1,6 +1,6 @@
 -- What becomes of the tables when something leaves them.
-use Rattle.std.proofs.Common.{◌≡◌, ℕ, suc, ◌+◌, ◌<◌, ◌≤◌, Bool, true, false, cond, not, ltb, List, [], ◌∷◌, map, length, set, Some, None, Option, sym, refl, ap, ◌∙◌, arith}
-use Rattle.std.proofs.lemmas.List.{map-set, length-set}
+use Rattle.std.proofs.Common.{◌≡◌, ℕ, suc, ◌+◌, ◌≤◌, Bool, true, false, cond, not, ltb, List, [], ◌∷◌, map, length, set, Some, None, Option, sym, refl, ap, ◌∙◌, arith}
+use Rattle.std.proofs.lemmas.List.{map-set}
 use Rattle.std.specs.Option.{MatchOption}
 use Rattle.slots.specs.Cells.{Cell}
 use Rattle.slots.specs.Cells.{Free, Live, Spent}
@@ -8,15 +8,14 @@ use Rattle.slots.specs.Cells.{cells, cell_at, retired, viewed}
 use Rattle.slots.specs.declared.table.Table.{Table}
 use Rattle.slots.proofs.CellLaws.{cell_at_viewed}
 use Rattle.lists.specs.Walk.{without}
-use Rattle.lists.specs.Lists.{nodes, containers, members, home, Relinked}
+use Rattle.lists.specs.Lists.{members, home, Relinked}
 use Rattle.lists.specs.declared.lists.LinkedLists.{LinkedLists}
-use Rattle.model.specs.declared.ids.Region.{Region}
 use Rattle.model.specs.Calls.{unlink_at, drop_op}
-use Rattle.model.specs.Erasing.{less, unlink_block_at, drop_block, drop_region}
+use Rattle.model.specs.Erasing.{less, unlink_block_at, drop_block}
 use Rattle.tables.specs.declared.records.Operation.{Operation}
 use Rattle.tables.specs.declared.records.BasicBlock.{BasicBlock}
 use Rattle.tables.specs.declared.tables.Tables.{Tables}
-use Rattle.tables.specs.View.{view, view_op, view_block, sizes, op_cells, block_cells}
+use Rattle.tables.specs.View.{view, view_op, view_block, op_cells, block_cells}
 use Rattle.tables.proofs.LinkLaws.{members_put, home_put}
 
 module _ {X Y : Type 0} (f : X → Y) where

@@ -27,7 +27,7 @@ fn has_definer(nodes: &[IRNode], definer: DefiningEntity) -> bool
     })
 }
 
-/// New values that take the place of old ones, one after another; each of `news` that of the one of `olds` beside it.
+/// Each of `olds`, in order, gives way to the one of `news` in the same place.
 #[derive(Clone, Copy)]
 struct Exchange<'a> {
     olds: &'a [Value],

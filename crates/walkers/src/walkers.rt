@@ -9,6 +9,7 @@ use crate::nodes::Nodes;
 use model::ids::IRNode;
 use tables::tables::Tables;
 
+// Stays: the three below call one another over the plain tables, a rule of the project; so each asks for `Sound` of them, and no type carries it.
 /// Meets the operation in the slot `op`, and all that lies in it.
 #[cycle(walking)]
 pub fn walk_op(tables: &Tables, op: usize, nodes: &mut Nodes)

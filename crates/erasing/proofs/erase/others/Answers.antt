@@ -1,4 +1,4 @@
-use Rattle.std.proofs.Common.{◌<◌, ◌≤◌, not, eqb, length, rules, tests, sym, ap, ◌∙◌, arith, lit<}
+use Rattle.std.proofs.Common.{◌≤◌, not, eqb, length, rules, tests, ap, ◌∙◌, arith, lit<}
 use Rattle.std.proofs.lemmas.Iterator.{YieldsList-from_slice}
 use Rattle.std.proofs.lemmas.Iterator.Consumers.{YieldsList-at, YieldsList-from_filter, YieldsList-turn, YieldsList-end}
 use Rattle.std.proofs.lemmas.List.{length-map, length-take-le}

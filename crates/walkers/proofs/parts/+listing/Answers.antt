@@ -1,5 +1,5 @@
 use Rattle.std.proofs.Common.{◌≡◌, ◌+◌, ◌*◌, ◌<◌, ◌≤◌, [], ◌∷◌, ◌++◌, reverse, length, drop, sym, refl, ap, ◌∙◌, arith, length-append}
-use Rattle.std.proofs.lemmas.List.{append-nil, length_push}
+use Rattle.std.proofs.lemmas.List.{length_push}
 use Rattle.std.proofs.lemmas.Iterator.Adapters.{YieldsList-from_rev_slice}
 use Rattle.std.proofs.lemmas.Iterator.Consumers.{YieldsList-turn, YieldsList-end}
 use Rattle.std.specs.Iterator.Adapters.{rev_source}
@@ -14,7 +14,7 @@ use Rattle.model.proofs.Parts.{nodes_unfold}
 use Rattle.model.proofs.Backward.{agree_reverse, last_first, prev_next}
 use Rattle.tables.specs.View.{view}
 use Rattle.walkers.specs.Listed.{nodes_in, Room}
-use Rattle.walkers.proofs.Backs.{region_in, behind, both, first_room, second_room, edge_is, listed_some, listed_none}
+use Rattle.walkers.proofs.Backs.{region_in, behind, both, first_room, second_room, edge_is, listed_some}
 use Rattle.walkers.proofs.Turns.{slice_few, slice_room, slice_turn, slice_end, linked_from, linked_end, linked_few, linked_less, linked_on, linked_room}
 use Rattle.walkers.proofs.parts.+listing.Goals as goal
 
@@ -120,10 +120,6 @@ list_region-returns t c =
     let r = c.args.region in
     let end = linked_end f (nodes_in c.loop-cursor.nodes) (nodes_in c.args.nodes.now) (reverse (m.blocks_of r)) c.loop-cursor.cursor c.in_default.is c.loop-cursor.invariant.1 in
     both (nodes_in c.args.nodes.now) (flat_map f (reverse (m.blocks_of r))) (edge_nodes m r) (nodes_in c.loop-cursor.nodes) (nodes_in c.list_edge.new.nodes) end c.list_edge.ensures
-
-pub list_regions-returns-in_default : goal.list_regions-returns-in_default
-list_regions-returns-in_default t c =
-    sym (append-nil (nodes_in c.args.nodes.now)) ∙ ap (λ ns. nodes_in c.args.nodes.now ++ ns) (sym (listed_none c.args.tables.now c.args.op c.in_default.ensures))
 
 pub list_regions-list_region-requires : goal.list_regions-list_region-requires
 list_regions-list_region-requires t c =

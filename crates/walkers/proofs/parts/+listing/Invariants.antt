@@ -1,4 +1,4 @@
-use Rattle.std.proofs.Common.{◌≡◌, ◌+◌, ◌*◌, ◌≤◌, ◌++◌, reverse, length, drop}
+use Rattle.std.proofs.Common.{◌≡◌, ◌+◌, ◌*◌, ◌++◌, reverse, length, drop}
 use Rattle.std.specs.List.{flat_map}
 use Rattle.std.specs.Iterator.Adapters.{rev_source}
 use Rattle.std.specs.Slice.Iter.{iter_rest}
@@ -39,5 +39,5 @@ decreases-list_region-loop-cursor l = length (rest_from l.cursor (reverse ((view
 
 abbrev pub invariant-list_regions-loop-region : goal.invariant-list_regions-loop-region
 invariant-list_regions-loop-region l =
-    nodes_in l.nodes ++ flat_map (region_in l.tables) (drop (length l.yielded) (reverse (iter_rest (rev_source l.initial.region-iterator)))) 
+    nodes_in l.nodes ++ flat_map (region_in l.tables) (drop (length l.yielded) (reverse (iter_rest (rev_source l.initial.region-iterator))))
     ≡ nodes_in l.initial.nodes ++ flat_map (region_in l.tables) (reverse (iter_rest (rev_source l.initial.region-iterator)))

@@ -1,5 +1,4 @@
-use Rattle.std.proofs.Common.{◌≡◌, ◌++◌, length}
-use Rattle.std.specs.List.{flat_map}
+use Rattle.std.proofs.Common.{length}
 use Rattle.tables.specs.View.{view}
 use Rattle.walkers.specs.Listed.{nodes_in}
 use Rattle.walkers.proofs.Places.{rest_from}

@@ -44,9 +44,6 @@ walk_op-returns-in_default t c =
     c.push.ensures ∙ ap (λ (i : OpId). nodes_in c.args.nodes.now ++ (node.Operation i ∷ [])) c.op_id.ensures
     ∙ ap (λ ns. nodes_in c.args.nodes.now ++ ns) (sym (walk_none c.args.tables.now c.requires.sound c.args.op c.in_default.ensures))
 
-pub walk_op-loop-region-init : goal.walk_op-loop-region-init
-walk_op-loop-region-init t c = refl
-
 pub walk_op-walk_region-requires : goal.walk_op-walk_region-requires
 walk_op-walk_region-requires t c =
     let whole = ap length (walk_some c.args.tables.now c.requires.sound c.args.op c.in-Some.operation.now c.as_slice-region-items.result.now c.in-Some.ensures c.as_slice-region-items.ensures) in
