@@ -97,6 +97,11 @@ module _ {X Y : Type 0} (f : X → Y) where
   cell_at_viewed (c ∷ cs) zero = refl
   cell_at_viewed (c ∷ cs) (suc s) = cell_at_viewed cs s
 
+  pub holds_viewed : (c : Cell X) → holds (viewed f c) ≡ option_map f (holds c)
+  holds_viewed (Free g) = refl
+  holds_viewed (Live g x) = refl
+  holds_viewed Spent = refl
+
   pub free_viewed : (c : Cell X) → is_free (viewed f c) ≡ is_free c
   free_viewed (Free g) = refl
   free_viewed (Live g x) = refl

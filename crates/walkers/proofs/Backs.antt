@@ -1,6 +1,5 @@
 -- Listings from the last to the first, each node behind what lies in it.
-use Rattle.std.proofs.Common.{◌≡◌, ℕ, ◌+◌, ◌-◌, ◌<◌, ◌≤◌, List, [], ◌∷◌, ◌++◌, map, reverse, length, get_or, take, Some, None, sym, ap, ◌∙◌, append_assoc, arith, length-append}
-use Rattle.std.proofs.lemmas.List.{take_all}
+use Rattle.std.proofs.Common.{◌≡◌, ℕ, ◌+◌, ◌≤◌, List, [], ◌∷◌, ◌++◌, map, reverse, length, Some, None, sym, ap, ◌∙◌, append_assoc, arith, length-append}
 use Rattle.std.specs.List.{flat_map}
 use Rattle.slots.specs.Cells.{cells, cell_at, holds}
 use Rattle.row.specs.Items.{row_items}
@@ -10,11 +9,11 @@ use Rattle.model.specs.declared.ids.IRNode.TheVariants as node
 use Rattle.model.specs.Model.{Model, block_id, region_id}
 use Rattle.model.specs.Walk.{slots_of_regions}
 use Rattle.model.specs.Erasing.{edge_nodes, region_nodes, op_nodes}
-use Rattle.model.proofs.Backward.{back_more, map_reverse, joined_one}
+use Rattle.model.proofs.Backward.{map_reverse, joined_one}
 use Rattle.tables.specs.declared.records.Operation.{Operation}
 use Rattle.tables.specs.declared.tables.Tables.{Tables}
 use Rattle.tables.specs.View.{view}
-use Rattle.walkers.proofs.Turns.{joined_map, turn, finish, room}
+use Rattle.walkers.proofs.Turns.{joined_map}
 use Rattle.walkers.proofs.Regions.{regions_are}
 
 -- what is listed of the region with this identity
@@ -39,27 +38,6 @@ module _ {Y : Type 0} where
 
   pub second_room : (start here there middle : List Y) (n : ℕ) → middle ≡ start ++ here → length start + length (here ++ there) ≤ n → length middle + length there ≤ n
   second_room start here there middle n e fits = let a = ap length e ∙ length-append start here in omega (arith, length-append here there)
-
-  -- a loop over a slice from its end, where j elements are left
-  module _ {X : Type 0} (f : X → List Y) (xs : List X) (d : X) (j : ℕ) (some : 0 < j) (within : j ≤ length xs) where
-    less : flat_map f (reverse (take j xs)) ≡ f (get_or xs (j - 1) d) ++ flat_map f (reverse (take (j - 1) xs))
-    less = let e : j ≡ (j - 1) + 1 = omega arith in ap (λ k. flat_map f (reverse (take k xs))) e ∙ back_more f xs (j - 1) d (omega arith)
-
-    pub back_few : length (f (get_or xs (j - 1) d)) + length (flat_map f (reverse (take (j - 1) xs))) ≡ length (flat_map f (reverse (take j xs)))
-    back_few = sym (ap length less ∙ length-append (f (get_or xs (j - 1) d)) (flat_map f (reverse (take (j - 1) xs))))
-
-    module _ (out start whole : List Y) (inv : out ++ flat_map f (reverse (take j xs)) ≡ start ++ whole) where
-      pub back_room : (n : ℕ) → length start + length whole ≤ n → length out + length (f (get_or xs (j - 1) d)) ≤ n
-      back_room n fits = room out (f (get_or xs (j - 1) d)) (flat_map f (reverse (take j xs))) (flat_map f (reverse (take (j - 1) xs))) start whole n less inv fits
-
-      pub back_turn : (out' : List Y) → out' ≡ out ++ f (get_or xs (j - 1) d) → out' ++ flat_map f (reverse (take (j - 1) xs)) ≡ start ++ whole
-      back_turn out' e = turn out out' (f (get_or xs (j - 1) d)) (flat_map f (reverse (take j xs))) (flat_map f (reverse (take (j - 1) xs))) (start ++ whole) less e inv
-
-  pub back_start : {X : Type 0} (f : X → List Y) (xs : List X) → flat_map f (reverse (take (length xs) xs)) ≡ flat_map f (reverse xs)
-  back_start f xs = ap (λ ys. flat_map f (reverse ys)) (take_all (length xs) xs (omega arith))
-
-  pub back_end : {X : Type 0} (f : X → List Y) (xs : List X) (j : ℕ) (out whole : List Y) → j ≡ 0 → out ++ flat_map f (reverse (take j xs)) ≡ whole → out ≡ whole
-  back_end f xs j out whole e inv = finish out (flat_map f (reverse (take j xs))) whole (ap (λ k. flat_map f (reverse (take k xs))) e) inv
 
 pub edge_is : (m : Model) (r : ℕ) → edge_nodes m r ≡ flat_map (block_node m) (m.blocks_of r) ++ node.Region (region_id m r) ∷ []
 edge_is m r = ap (λ ns. ns ++ node.Region (region_id m r) ∷ []) (sym (joined_one (λ b. node.BasicBlock (block_id m b)) (m.blocks_of r)))

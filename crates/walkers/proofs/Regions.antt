@@ -1,11 +1,9 @@
 -- The walk of an operation whose record is at hand.
-use Rattle.std.proofs.Common.{◌≡◌, ℕ, List, [], ◌∷◌, map, Some, None, Option, sym, refl, ap, ◌∙◌}
+use Rattle.std.proofs.Common.{◌≡◌, ℕ, List, [], ◌∷◌, map, Some, None, Option, sym, ap, ◌∙◌}
 use Rattle.std.specs.List.{flat_map}
 use Rattle.std.specs.Option.{option_map}
-use Rattle.slots.specs.Cells.{Cell}
-use Rattle.slots.specs.Cells.{Free, Live, Spent}
-use Rattle.slots.specs.Cells.{cells, cell_at, holds, viewed}
-use Rattle.slots.proofs.CellLaws.{cell_at_viewed}
+use Rattle.slots.specs.Cells.{cells, cell_at, holds}
+use Rattle.slots.proofs.CellLaws.{cell_at_viewed, holds_viewed}
 use Rattle.row.specs.Items.{row_items}
 use Rattle.model.specs.declared.ids.RegionId.{RegionId}
 use Rattle.model.specs.declared.ids.IRNode.{IRNode}
@@ -18,11 +16,6 @@ use Rattle.tables.specs.declared.records.Operation.{Operation}
 use Rattle.tables.specs.declared.tables.Tables.{Tables}
 use Rattle.tables.specs.View.{view, view_op}
 use Rattle.walkers.proofs.Turns.{joined_map}
-
-holds_viewed : {X Y : Type 0} (f : X → Y) (c : Cell X) → holds (viewed f c) ≡ option_map f (holds c)
-holds_viewed f (Free g) = refl
-holds_viewed f (Live g x) = refl
-holds_viewed f Spent = refl
 
 -- what is met in the region with this identity
 abbrev pub inside : Tables → RegionId → List IRNode

@@ -59,12 +59,13 @@ joined_map f g (x ∷ xs) = ap (λ ys. f (g x) ++ ys) (joined_map f g xs)
 abbrev pub At : (ℕ → List ℕ) → ℕ → Option ℕ → Type 0
 At ms c o = (x : ℕ) → o ≡ Some x → In x (ms c)
 
--- a loop over a linked list, from its first node
-pub at_first : (ms : ℕ → List ℕ) (c : ℕ) (o : Option ℕ) → o ≡ first_of (ms c) → At ms c o
-at_first ms c o e x d = first_in x (ms c) (sym e ∙ d)
+-- a loop over the list of c puts out what f gives of its nodes: out is there, and the node o is next
+abbrev pub Midway : {Y : Type 0} → (ℕ → List ℕ) → ℕ → (ℕ → List Y) → Option ℕ → List Y → List Y → Type 0
+Midway ms c f o out start = At ms c o × (out ++ flat_map f (rest_from o (ms c)) ≡ start ++ flat_map f (ms c))
 
-pub linked_start : {Y : Type 0} (f : ℕ → List Y) (start : List Y) (xs : List ℕ) (o : Option ℕ) → o ≡ first_of xs → start ++ flat_map f (rest_from o xs) ≡ start ++ flat_map f xs
-linked_start f start xs o e = ap (λ ys. start ++ flat_map f ys) (ap (λ z. rest_from z xs) e ∙ rest_first xs)
+-- a loop over a linked list, from its first node
+pub linked_from : {Y : Type 0} (ms : ℕ → List ℕ) (c : ℕ) (f : ℕ → List Y) (start : List Y) (o : Option ℕ) → o ≡ first_of (ms c) → Midway ms c f o start start
+linked_from ms c f start o e = (λ x d. first_in x (ms c) (sym e ∙ d), ap (λ ys. start ++ flat_map f ys) (ap (λ z. rest_from z (ms c)) e ∙ rest_first (ms c)))
 
 pub linked_end : {Y : Type 0} (f : ℕ → List Y) (out start : List Y) (xs : List ℕ) (o : Option ℕ) → o ≡ None → out ++ flat_map f (rest_from o xs) ≡ start ++ flat_map f xs → out ≡ start ++ flat_map f xs
 linked_end f out start xs o e inv = finish out (flat_map f (rest_from o xs)) (start ++ flat_map f xs) (ap (λ z. flat_map f (rest_from z xs)) e) inv
@@ -94,3 +95,7 @@ module _ (ms : ℕ → List ℕ) (h : ℕ → Option ℕ) (a : Agree ms h) (c x 
 
     pub linked_turn : (out' : List Y) → out' ≡ out ++ f x → out' ++ flat_map f (rest_from next (ms c)) ≡ start ++ flat_map f (ms c)
     linked_turn out' e = turn out out' (f x) (flat_map f (rest_from o (ms c))) (flat_map f (rest_from next (ms c))) (start ++ flat_map f (ms c)) (ap (flat_map f) rest_next) e inv
+
+    -- both at once
+    pub linked_on : (out' : List Y) → out' ≡ out ++ f x → Midway ms c f next out' start
+    linked_on out' e = (at_next, linked_turn out' e)

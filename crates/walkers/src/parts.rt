@@ -11,6 +11,7 @@ use crate::nodes::Nodes;
 use model::ids::IRNode;
 use tables::tables::Tables;
 
+// Stays: these call one another over the plain tables, a rule of the project; so each asks for `Sound` of them, and no type carries it.
 /// Lists what lies in the operation in the slot `op`, then the operation.
 #[cycle(listing)]
 pub fn list_op(tables: &Tables, op: usize, nodes: &mut Nodes)
@@ -32,11 +33,8 @@ fn list_regions(tables: &Tables, op: usize, nodes: &mut Nodes)
     let Some(operation) = tables.operations.peek(op) else {
         return;
     };
-    let regions = operation.regions.as_slice();
-    let mut left = regions.len();
-    while left > 0 {
-        left -= 1;
-        list_region(tables, regions[left].slot, nodes);
+    for region in operation.regions.as_slice().iter().rev() {
+        list_region(tables, region.slot, nodes);
     }
 }
 
@@ -47,10 +45,10 @@ pub fn list_region(tables: &Tables, region: usize, nodes: &mut Nodes)
     requires room { Room nodes.old (region_nodes (view tables.now) (op_nodes (view tables.now)) region) }
     ensures { nodes_in nodes.new ≡ nodes_in nodes.old ++ region_nodes (view tables.now) (op_nodes (view tables.now)) region }
 {
-    let mut cursor = tables.last_block(region);
+    let mut cursor = tables.block_lists.get_tail(region);
     while let Some(block) = cursor {
         list_body(tables, block, nodes);
-        cursor = tables.prev_block_of(block);
+        cursor = tables.block_lists.get_prev(block);
     }
     list_edge(tables, region, nodes);
 }
@@ -62,10 +60,10 @@ fn list_body(tables: &Tables, block: usize, nodes: &mut Nodes)
     requires room { Room nodes.old (body_nodes (view tables.now) (op_nodes (view tables.now)) block) }
     ensures { nodes_in nodes.new ≡ nodes_in nodes.old ++ body_nodes (view tables.now) (op_nodes (view tables.now)) block }
 {
-    let mut cursor = tables.last_op(block);
+    let mut cursor = tables.op_lists.get_tail(block);
     while let Some(op) = cursor {
         list_op(tables, op, nodes);
-        cursor = tables.prev_of(op);
+        cursor = tables.op_lists.get_prev(op);
     }
 }
 
@@ -75,10 +73,10 @@ fn list_edge(tables: &Tables, region: usize, nodes: &mut Nodes)
     requires room { Room nodes.old (edge_nodes (view tables.now) region) }
     ensures { nodes_in nodes.new ≡ nodes_in nodes.old ++ edge_nodes (view tables.now) region }
 {
-    let mut cursor = tables.first_block(region);
+    let mut cursor = tables.block_lists.get_head(region);
     while let Some(block) = cursor {
         nodes.push(IRNode::BasicBlock(tables.block_id(block)));
-        cursor = tables.next_block_of(block);
+        cursor = tables.block_lists.get_next(block);
     }
     nodes.push(IRNode::Region(tables.region_id(region)));
 }

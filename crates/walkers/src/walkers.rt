@@ -9,6 +9,7 @@ use crate::nodes::Nodes;
 use model::ids::IRNode;
 use tables::tables::Tables;
 
+// Stays: the three below call one another over the plain tables, a rule of the project; so each asks for `Sound` of them, and no type carries it.
 /// Meets the operation in the slot `op`, and all that lies in it.
 #[cycle(walking)]
 pub fn walk_op(tables: &Tables, op: usize, nodes: &mut Nodes)
@@ -32,10 +33,10 @@ pub fn walk_region(tables: &Tables, region: usize, nodes: &mut Nodes)
     requires room { Room nodes.old (region_by (view tables.now) (walk (view tables.now)) region) }
     ensures { nodes_in nodes.new ≡ nodes_in nodes.old ++ region_by (view tables.now) (walk (view tables.now)) region }
 {
-    let mut cursor = tables.first_block(region);
+    let mut cursor = tables.block_lists.get_head(region);
     while let Some(block) = cursor {
         walk_block(tables, block, nodes);
-        cursor = tables.next_block_of(block);
+        cursor = tables.block_lists.get_next(block);
     }
 }
 
@@ -47,9 +48,9 @@ pub fn walk_block(tables: &Tables, block: usize, nodes: &mut Nodes)
     ensures { nodes_in nodes.new ≡ nodes_in nodes.old ++ block_by (view tables.now) (walk (view tables.now)) block }
 {
     nodes.push(IRNode::BasicBlock(tables.block_id(block)));
-    let mut cursor = tables.first_op(block);
+    let mut cursor = tables.op_lists.get_head(block);
     while let Some(op) = cursor {
         walk_op(tables, op, nodes);
-        cursor = tables.next_of(op);
+        cursor = tables.op_lists.get_next(op);
     }
 }

@@ -1,5 +1,9 @@
-use Rattle.std.proofs.Common.{◌≡◌, ◌+◌, ◌-◌, ◌*◌, ◌<◌, ◌≤◌, [], ◌∷◌, ◌++◌, reverse, length, get_or, sym, ap, ◌∙◌, arith, length-append}
-use Rattle.std.proofs.lemmas.List.{append-nil}
+use Rattle.std.proofs.Common.{◌≡◌, ◌+◌, ◌*◌, ◌<◌, ◌≤◌, [], ◌∷◌, ◌++◌, reverse, length, drop, sym, refl, ap, ◌∙◌, arith, length-append}
+use Rattle.std.proofs.lemmas.List.{length_push}
+use Rattle.std.proofs.lemmas.Iterator.Adapters.{YieldsList-from_rev_slice}
+use Rattle.std.proofs.lemmas.Iterator.Consumers.{YieldsList-turn, YieldsList-end}
+use Rattle.std.specs.Iterator.Adapters.{rev_source}
+use Rattle.std.specs.Slice.Iter.{iter_rest}
 use Rattle.std.specs.List.{flat_map}
 use Rattle.model.specs.declared.ids.OpId.{OpId}
 use Rattle.model.specs.declared.ids.IRNode.TheVariants as node
@@ -10,17 +14,14 @@ use Rattle.model.proofs.Parts.{nodes_unfold}
 use Rattle.model.proofs.Backward.{agree_reverse, last_first, prev_next}
 use Rattle.tables.specs.View.{view}
 use Rattle.walkers.specs.Listed.{nodes_in, Room}
-use Rattle.walkers.proofs.Backs.{region_in, behind, both, first_room, second_room, back_few, back_room, back_turn, back_start, back_end, edge_is, listed_some, listed_none}
-use Rattle.walkers.proofs.Turns.{at_first, at_next, linked_start, linked_end, linked_few, linked_less, linked_room, linked_turn}
+use Rattle.walkers.proofs.Backs.{region_in, behind, both, first_room, second_room, edge_is, listed_some}
+use Rattle.walkers.proofs.Turns.{slice_few, slice_room, slice_turn, slice_end, linked_from, linked_end, linked_few, linked_less, linked_on, linked_room}
 use Rattle.walkers.proofs.parts.+listing.Goals as goal
 
 pub list_body-loop-cursor-init : goal.list_body-loop-cursor-init
 list_body-loop-cursor-init t c =
     let m = view c.args.tables.now in
-    let first = c.last_op-cursor.ensures ∙ last_first (m.ops_of c.args.block) in (
-      at_first (λ b. reverse (m.ops_of b)) c.args.block c.last_op-cursor.result first,
-      linked_start (op_nodes m) (nodes_in c.args.nodes.now) (reverse (m.ops_of c.args.block)) c.last_op-cursor.result first,
-    )
+    linked_from (λ b. reverse (m.ops_of b)) c.args.block (op_nodes m) (nodes_in c.args.nodes.now) c.get_tail-cursor.result (c.get_tail-cursor.ensures ∙ last_first (m.ops_of c.args.block))
 
 pub list_body-list_op-requires : goal.list_body-list_op-requires
 list_body-list_op-requires t c =
@@ -34,16 +35,14 @@ list_body-list_op-requires t c =
 pub list_body-loop-cursor-smaller : goal.list_body-loop-cursor-smaller
 list_body-loop-cursor-smaller t c =
     let m = view c.args.tables.now in
-    linked_less (λ b. reverse (m.ops_of b)) m.home_of (agree_reverse m.ops_of m.home_of c.requires.sound.ops) c.args.block c.in-Some.op c.loop-cursor.cursor c.prev_of-cursor.result c.in-Some.is c.loop-cursor.invariant.0 (c.prev_of-cursor.ensures ∙ prev_next m.ops_of m.home_of c.requires.sound.ops c.in-Some.op)
+    linked_less (λ b. reverse (m.ops_of b)) m.home_of (agree_reverse m.ops_of m.home_of c.requires.sound.ops) c.args.block c.in-Some.op c.loop-cursor.cursor c.get_prev-cursor.result c.in-Some.is c.loop-cursor.invariant.0 (c.get_prev-cursor.ensures ∙ prev_next m.ops_of m.home_of c.requires.sound.ops c.in-Some.op)
 
 pub list_body-loop-cursor-preserved : goal.list_body-loop-cursor-preserved
 list_body-loop-cursor-preserved t c =
     let m = view c.args.tables.now in
     let agree = agree_reverse m.ops_of m.home_of c.requires.sound.ops in
-    let next = c.prev_of-cursor.ensures ∙ prev_next m.ops_of m.home_of c.requires.sound.ops c.in-Some.op in (
-      at_next (λ b. reverse (m.ops_of b)) m.home_of agree c.args.block c.in-Some.op c.loop-cursor.cursor c.prev_of-cursor.result c.in-Some.is c.loop-cursor.invariant.0 next,
-      linked_turn (λ b. reverse (m.ops_of b)) m.home_of agree c.args.block c.in-Some.op c.loop-cursor.cursor c.prev_of-cursor.result c.in-Some.is c.loop-cursor.invariant.0 next (op_nodes m) (nodes_in c.loop-cursor.nodes) (nodes_in c.args.nodes.now) c.loop-cursor.invariant.1 (nodes_in c.list_op.new.nodes) c.list_op.ensures,
-    )
+    let next = c.get_prev-cursor.ensures ∙ prev_next m.ops_of m.home_of c.requires.sound.ops c.in-Some.op in
+    linked_on (λ b. reverse (m.ops_of b)) m.home_of agree c.args.block c.in-Some.op c.loop-cursor.cursor c.get_prev-cursor.result c.in-Some.is c.loop-cursor.invariant.0 next (op_nodes m) (nodes_in c.loop-cursor.nodes) (nodes_in c.args.nodes.now) c.loop-cursor.invariant.1 (nodes_in c.list_op.new.nodes) c.list_op.ensures
 
 pub list_op-list_regions-requires : goal.list_op-list_regions-requires
 list_op-list_regions-requires t c =
@@ -74,10 +73,7 @@ list_op-returns t c =
 pub list_region-loop-cursor-init : goal.list_region-loop-cursor-init
 list_region-loop-cursor-init t c =
     let m = view c.args.tables.now in
-    let first = c.last_block-cursor.ensures ∙ last_first (m.blocks_of c.args.region) in (
-      at_first (λ r. reverse (m.blocks_of r)) c.args.region c.last_block-cursor.result first,
-      linked_start (body_nodes m (op_nodes m)) (nodes_in c.args.nodes.now) (reverse (m.blocks_of c.args.region)) c.last_block-cursor.result first,
-    )
+    linked_from (λ r. reverse (m.blocks_of r)) c.args.region (body_nodes m (op_nodes m)) (nodes_in c.args.nodes.now) c.get_tail-cursor.result (c.get_tail-cursor.ensures ∙ last_first (m.blocks_of c.args.region))
 
 pub list_region-list_body-requires : goal.list_region-list_body-requires
 list_region-list_body-requires t c =
@@ -97,16 +93,14 @@ list_region-list_body-requires t c =
 pub list_region-loop-cursor-smaller : goal.list_region-loop-cursor-smaller
 list_region-loop-cursor-smaller t c =
     let m = view c.args.tables.now in
-    linked_less (λ k. reverse (m.blocks_of k)) m.place_of (agree_reverse m.blocks_of m.place_of c.requires.sound.blocks) c.args.region c.in-Some.block c.loop-cursor.cursor c.prev_block_of-cursor.result c.in-Some.is c.loop-cursor.invariant.0 (c.prev_block_of-cursor.ensures ∙ prev_next m.blocks_of m.place_of c.requires.sound.blocks c.in-Some.block)
+    linked_less (λ k. reverse (m.blocks_of k)) m.place_of (agree_reverse m.blocks_of m.place_of c.requires.sound.blocks) c.args.region c.in-Some.block c.loop-cursor.cursor c.get_prev-cursor.result c.in-Some.is c.loop-cursor.invariant.0 (c.get_prev-cursor.ensures ∙ prev_next m.blocks_of m.place_of c.requires.sound.blocks c.in-Some.block)
 
 pub list_region-loop-cursor-preserved : goal.list_region-loop-cursor-preserved
 list_region-loop-cursor-preserved t c =
     let m = view c.args.tables.now in
     let agree = agree_reverse m.blocks_of m.place_of c.requires.sound.blocks in
-    let next = c.prev_block_of-cursor.ensures ∙ prev_next m.blocks_of m.place_of c.requires.sound.blocks c.in-Some.block in (
-      at_next (λ k. reverse (m.blocks_of k)) m.place_of agree c.args.region c.in-Some.block c.loop-cursor.cursor c.prev_block_of-cursor.result c.in-Some.is c.loop-cursor.invariant.0 next,
-      linked_turn (λ k. reverse (m.blocks_of k)) m.place_of agree c.args.region c.in-Some.block c.loop-cursor.cursor c.prev_block_of-cursor.result c.in-Some.is c.loop-cursor.invariant.0 next (body_nodes m (op_nodes m)) (nodes_in c.loop-cursor.nodes) (nodes_in c.args.nodes.now) c.loop-cursor.invariant.1 (nodes_in c.list_body.new.nodes) c.list_body.ensures,
-    )
+    let next = c.get_prev-cursor.ensures ∙ prev_next m.blocks_of m.place_of c.requires.sound.blocks c.in-Some.block in
+    linked_on (λ k. reverse (m.blocks_of k)) m.place_of agree c.args.region c.in-Some.block c.loop-cursor.cursor c.get_prev-cursor.result c.in-Some.is c.loop-cursor.invariant.0 next (body_nodes m (op_nodes m)) (nodes_in c.loop-cursor.nodes) (nodes_in c.args.nodes.now) c.loop-cursor.invariant.1 (nodes_in c.list_body.new.nodes) c.list_body.ensures
 
 pub list_region-list_edge-requires : goal.list_region-list_edge-requires
 list_region-list_edge-requires t c =
@@ -127,44 +121,34 @@ list_region-returns t c =
     let end = linked_end f (nodes_in c.loop-cursor.nodes) (nodes_in c.args.nodes.now) (reverse (m.blocks_of r)) c.loop-cursor.cursor c.in_default.is c.loop-cursor.invariant.1 in
     both (nodes_in c.args.nodes.now) (flat_map f (reverse (m.blocks_of r))) (edge_nodes m r) (nodes_in c.loop-cursor.nodes) (nodes_in c.list_edge.new.nodes) end c.list_edge.ensures
 
-pub list_regions-returns-in_default : goal.list_regions-returns-in_default
-list_regions-returns-in_default t c =
-    sym (append-nil (nodes_in c.args.nodes.now)) ∙ ap (λ ns. nodes_in c.args.nodes.now ++ ns) (sym (listed_none c.args.tables.now c.args.op c.in_default.ensures))
-
-pub list_regions-loop-left-init : goal.list_regions-loop-left-init
-list_regions-loop-left-init t c =
-    let f = region_in c.args.tables.now in
-    let rs = c.as_slice-regions.result.now in
-    let all = back_start f rs in
-    (omega arith, omega (arith, ap length all), ap (λ ns. nodes_in c.args.nodes.now ++ ns) all)
-
 pub list_regions-list_region-requires : goal.list_regions-list_region-requires
 list_regions-list_region-requires t c =
     let f = region_in c.args.tables.now in
-    let rs = c.as_slice-regions.result.now in
-    let j = c.loop-left.left in
-    let whole = listed_some c.args.tables.now c.args.op c.in-Some.operation.now rs c.in-Some.ensures c.as_slice-regions.ensures in
-    let part = back_few f rs (record { slot = 0; generation = 0 }) j c.loop-left-test.true c.loop-left.invariant.0 in
-    let less : 2 * length (region_in c.args.tables.now (get_or c.as_slice-regions.result.now (c.loop-left.left - 1) (record { slot = 0; generation = 0 }))) < t = omega (arith, c.decreases, part, c.loop-left.invariant.1, ap length whole) in
-    let fits : length (nodes_in c.args.nodes.now) + length (flat_map f (reverse rs)) ≤ 768 = omega (arith, c.requires.room, ap length whole) in
-    let room : Room c.loop-left.nodes (region_in c.args.tables.now (get_or c.as_slice-regions.result.now (c.loop-left.left - 1) (record { slot = 0; generation = 0 }))) =
-    back_room f rs (record { slot = 0; generation = 0 }) j c.loop-left-test.true c.loop-left.invariant.0 (nodes_in c.loop-left.nodes) (nodes_in c.args.nodes.now) (flat_map f (reverse rs)) c.loop-left.invariant.2 768 fits in
+    let rs = iter_rest (rev_source c.into_iter-region-iterator.result) in
+    let k = length c.loop-region.yielded in
+    let r = c.in-Some-region.region.now in
+    let turn = YieldsList-turn (YieldsList-from_rev_slice {s = c.into_iter-region-iterator.result} rs refl) c.loop-region.yielded c.loop-region.region-iterator c.loop-region.yielded_by c.next.result c.next.new.self c.in-Some-region.region c.in-Some-region.is c.next.ensures.steps in
+    let here = ap (λ q. length (f q)) turn.1 in
+    let whole = ap length (listed_some c.args.tables.now c.args.op c.in-Some.operation.now rs c.in-Some.ensures cc) in
+    let less : 2 * length (region_in c.args.tables.now c.in-Some-region.region.now) < t = omega (arith, c.decreases, slice_few f (reverse rs) k r turn.0, here, whole) in
+    let fits : length (nodes_in c.args.nodes.now) + length (flat_map f (reverse rs)) ≤ 768 = omega (arith, c.requires.room, whole) in
+    let room : Room c.loop-region.nodes (region_in c.args.tables.now c.in-Some-region.region.now) =
+    omega (arith, slice_room f (reverse rs) k r (nodes_in c.loop-region.nodes) (nodes_in c.args.nodes.now) (flat_map f (reverse rs)) c.loop-region.invariant 768 turn.0 fits, here) in
     (less, (c.requires.sound, room))
 
-pub list_regions-loop-left-preserved : goal.list_regions-loop-left-preserved
-list_regions-loop-left-preserved t c =
+pub list_regions-loop-region-preserved : goal.list_regions-loop-region-preserved
+list_regions-loop-region-preserved t c =
     let f = region_in c.args.tables.now in
-    let rs = c.as_slice-regions.result.now in
-    let j = c.loop-left.left in
-    let part = back_few f rs (record { slot = 0; generation = 0 }) j c.loop-left-test.true c.loop-left.invariant.0 in (
-      omega (arith, c.loop-left.invariant.0),
-      omega (arith, part, c.loop-left.invariant.1),
-      back_turn f rs (record { slot = 0; generation = 0 }) j c.loop-left-test.true c.loop-left.invariant.0 (nodes_in c.loop-left.nodes) (nodes_in c.args.nodes.now) (flat_map f (reverse rs)) c.loop-left.invariant.2 (nodes_in c.list_region.new.nodes) c.list_region.ensures,
-    )
+    let rs = iter_rest (rev_source c.into_iter-region-iterator.result) in
+    let k = length c.loop-region.yielded in
+    let turn = YieldsList-turn (YieldsList-from_rev_slice {s = c.into_iter-region-iterator.result} rs refl) c.loop-region.yielded c.loop-region.region-iterator c.loop-region.yielded_by c.next.result c.next.new.self c.in-Some-region.region c.in-Some-region.is c.next.ensures.steps in
+    ap (λ n. nodes_in c.list_region.new.nodes ++ flat_map f (drop n (reverse rs))) (length_push c.loop-region.yielded c.in-Some-region.region)
+    ∙ slice_turn f (reverse rs) k c.in-Some-region.region.now (nodes_in c.loop-region.nodes) (nodes_in c.args.nodes.now) (flat_map f (reverse rs)) c.loop-region.invariant (nodes_in c.list_region.new.nodes) turn.0 (c.list_region.ensures ∙ ap (λ q. nodes_in c.loop-region.nodes ++ f q) turn.1)
 
 pub list_regions-returns : goal.list_regions-returns
 list_regions-returns t c =
     let f = region_in c.args.tables.now in
-    let rs = c.as_slice-regions.result.now in
-    back_end f rs c.loop-left.left (nodes_in c.loop-left.nodes) (nodes_in c.args.nodes.now ++ flat_map f (reverse rs)) (omega (arith, c.loop-left-test.false)) c.loop-left.invariant.2
-    ∙ ap (λ ns. nodes_in c.args.nodes.now ++ ns) (sym (listed_some c.args.tables.now c.args.op c.in-Some.operation.now rs c.in-Some.ensures c.as_slice-regions.ensures))
+    let rs = iter_rest (rev_source c.into_iter-region-iterator.result) in
+    let seen = YieldsList-end (YieldsList-from_rev_slice {s = c.into_iter-region-iterator.result} rs refl) c.loop-region.yielded c.loop-region.region-iterator c.loop-region.yielded_by c.next.result c.next.new.self c.in-None.is c.next.ensures.steps in
+    slice_end f (reverse rs) (length c.loop-region.yielded) (record { slot = 0; generation = 0 }) (nodes_in c.loop-region.nodes) (nodes_in c.args.nodes.now) (flat_map f (reverse rs)) c.loop-region.invariant (omega (arith, seen.1))
+    ∙ ap (λ ns. nodes_in c.args.nodes.now ++ ns) (sym (listed_some c.args.tables.now c.args.op c.in-Some.operation.now rs c.in-Some.ensures cc))

@@ -7,7 +7,7 @@ use Rattle.model.specs.Model.{block_id, region_id, next_block_slot}
 use Rattle.tables.specs.View.{view}
 use Rattle.walkers.specs.Listed.{nodes_in}
 use Rattle.walkers.proofs.Backs.{block_node, behind, first_room, second_room, edge_is}
-use Rattle.walkers.proofs.Turns.{at_next, linked_end, linked_less, linked_room, linked_turn}
+use Rattle.walkers.proofs.Turns.{linked_end, linked_less, linked_on, linked_room}
 use Rattle.walkers.proofs.parts.list_edge.Goals as goal
 
 pub push-requires : goal.push-requires
@@ -22,16 +22,14 @@ push-requires c =
 pub loop-cursor-smaller : goal.loop-cursor-smaller
 loop-cursor-smaller c =
     let m = view c.args.tables.now in
-    linked_less m.blocks_of m.place_of c.requires.sound.blocks c.args.region c.in-Some.block c.loop-cursor.cursor c.next_block_of-cursor.result c.in-Some.is c.loop-cursor.invariant.0 c.next_block_of-cursor.ensures
+    linked_less m.blocks_of m.place_of c.requires.sound.blocks c.args.region c.in-Some.block c.loop-cursor.cursor c.get_next-cursor.result c.in-Some.is c.loop-cursor.invariant.0 c.get_next-cursor.ensures
 
 pub loop-cursor-preserved : goal.loop-cursor-preserved
 loop-cursor-preserved c =
     let m = view c.args.tables.now in
     let out : nodes_in c.push.new.self ≡ nodes_in c.loop-cursor.nodes ++ (node.BasicBlock (block_id m c.in-Some.block) ∷ []) =
-    c.push.ensures ∙ ap (λ (i : BlockId). nodes_in c.loop-cursor.nodes ++ (node.BasicBlock i ∷ [])) c.block_id.ensures in (
-      at_next m.blocks_of m.place_of c.requires.sound.blocks c.args.region c.in-Some.block c.loop-cursor.cursor c.next_block_of-cursor.result c.in-Some.is c.loop-cursor.invariant.0 c.next_block_of-cursor.ensures,
-      linked_turn m.blocks_of m.place_of c.requires.sound.blocks c.args.region c.in-Some.block c.loop-cursor.cursor c.next_block_of-cursor.result c.in-Some.is c.loop-cursor.invariant.0 c.next_block_of-cursor.ensures (block_node m) (nodes_in c.loop-cursor.nodes) (nodes_in c.args.nodes.now) c.loop-cursor.invariant.1 (nodes_in c.push.new.self) out,
-    )
+    c.push.ensures ∙ ap (λ (i : BlockId). nodes_in c.loop-cursor.nodes ++ (node.BasicBlock i ∷ [])) c.block_id.ensures in
+    linked_on m.blocks_of m.place_of c.requires.sound.blocks c.args.region c.in-Some.block c.loop-cursor.cursor c.get_next-cursor.result c.in-Some.is c.loop-cursor.invariant.0 c.get_next-cursor.ensures (block_node m) (nodes_in c.loop-cursor.nodes) (nodes_in c.args.nodes.now) c.loop-cursor.invariant.1 (nodes_in c.push.new.self) out
 
 pub push-requires-2 : goal.push-requires-2
 push-requires-2 c =

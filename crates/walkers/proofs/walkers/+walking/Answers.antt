@@ -8,7 +8,7 @@ use Rattle.model.specs.Walk.{walk, block_by}
 use Rattle.tables.specs.View.{view}
 use Rattle.walkers.specs.Listed.{nodes_in, Room}
 use Rattle.walkers.proofs.Regions.{inside, walk_some, walk_none}
-use Rattle.walkers.proofs.Turns.{one_more, one_less, slice_few, slice_room, slice_turn, slice_end, at_next, linked_end, linked_few, linked_less, linked_room, linked_turn}
+use Rattle.walkers.proofs.Turns.{one_more, one_less, slice_few, slice_room, slice_turn, slice_end, linked_end, linked_few, linked_less, linked_on, linked_room}
 use Rattle.walkers.proofs.walkers.+walking.Goals as goal
 
 pub walk_block-walk_op-requires : goal.walk_block-walk_op-requires
@@ -24,14 +24,12 @@ walk_block-walk_op-requires t c =
 pub walk_block-loop-cursor-smaller : goal.walk_block-loop-cursor-smaller
 walk_block-loop-cursor-smaller t c =
     let m = view c.args.tables.now in
-    linked_less m.ops_of m.home_of c.requires.sound.ops c.args.block c.in-Some.op c.loop-cursor.cursor c.next_of-cursor.result c.in-Some.is c.loop-cursor.invariant.0 c.next_of-cursor.ensures
+    linked_less m.ops_of m.home_of c.requires.sound.ops c.args.block c.in-Some.op c.loop-cursor.cursor c.get_next-cursor.result c.in-Some.is c.loop-cursor.invariant.0 c.get_next-cursor.ensures
 
 pub walk_block-loop-cursor-preserved : goal.walk_block-loop-cursor-preserved
 walk_block-loop-cursor-preserved t c =
-    let m = view c.args.tables.now in (
-      at_next m.ops_of m.home_of c.requires.sound.ops c.args.block c.in-Some.op c.loop-cursor.cursor c.next_of-cursor.result c.in-Some.is c.loop-cursor.invariant.0 c.next_of-cursor.ensures,
-      linked_turn m.ops_of m.home_of c.requires.sound.ops c.args.block c.in-Some.op c.loop-cursor.cursor c.next_of-cursor.result c.in-Some.is c.loop-cursor.invariant.0 c.next_of-cursor.ensures (walk m) (nodes_in c.loop-cursor.nodes) (nodes_in c.push.new.self) c.loop-cursor.invariant.1 (nodes_in c.walk_op.new.nodes) c.walk_op.ensures,
-    )
+    let m = view c.args.tables.now in
+    linked_on m.ops_of m.home_of c.requires.sound.ops c.args.block c.in-Some.op c.loop-cursor.cursor c.get_next-cursor.result c.in-Some.is c.loop-cursor.invariant.0 c.get_next-cursor.ensures (walk m) (nodes_in c.loop-cursor.nodes) (nodes_in c.push.new.self) c.loop-cursor.invariant.1 (nodes_in c.walk_op.new.nodes) c.walk_op.ensures
 
 pub walk_block-returns : goal.walk_block-returns
 walk_block-returns t c =
@@ -45,9 +43,6 @@ pub walk_op-returns-in_default : goal.walk_op-returns-in_default
 walk_op-returns-in_default t c =
     c.push.ensures ∙ ap (λ (i : OpId). nodes_in c.args.nodes.now ++ (node.Operation i ∷ [])) c.op_id.ensures
     ∙ ap (λ ns. nodes_in c.args.nodes.now ++ ns) (sym (walk_none c.args.tables.now c.requires.sound c.args.op c.in_default.ensures))
-
-pub walk_op-loop-region-init : goal.walk_op-loop-region-init
-walk_op-loop-region-init t c = refl
 
 pub walk_op-walk_region-requires : goal.walk_op-walk_region-requires
 walk_op-walk_region-requires t c =
@@ -86,11 +81,9 @@ walk_region-walk_block-requires t c =
 pub walk_region-loop-cursor-smaller : goal.walk_region-loop-cursor-smaller
 walk_region-loop-cursor-smaller t c =
     let m = view c.args.tables.now in
-    linked_less m.blocks_of m.place_of c.requires.sound.blocks c.args.region c.in-Some.block c.loop-cursor.cursor c.next_block_of-cursor.result c.in-Some.is c.loop-cursor.invariant.0 c.next_block_of-cursor.ensures
+    linked_less m.blocks_of m.place_of c.requires.sound.blocks c.args.region c.in-Some.block c.loop-cursor.cursor c.get_next-cursor.result c.in-Some.is c.loop-cursor.invariant.0 c.get_next-cursor.ensures
 
 pub walk_region-loop-cursor-preserved : goal.walk_region-loop-cursor-preserved
 walk_region-loop-cursor-preserved t c =
-    let m = view c.args.tables.now in (
-      at_next m.blocks_of m.place_of c.requires.sound.blocks c.args.region c.in-Some.block c.loop-cursor.cursor c.next_block_of-cursor.result c.in-Some.is c.loop-cursor.invariant.0 c.next_block_of-cursor.ensures,
-      linked_turn m.blocks_of m.place_of c.requires.sound.blocks c.args.region c.in-Some.block c.loop-cursor.cursor c.next_block_of-cursor.result c.in-Some.is c.loop-cursor.invariant.0 c.next_block_of-cursor.ensures (block_by m (walk m)) (nodes_in c.loop-cursor.nodes) (nodes_in c.args.nodes.now) c.loop-cursor.invariant.1 (nodes_in c.walk_block.new.nodes) c.walk_block.ensures,
-    )
+    let m = view c.args.tables.now in
+    linked_on m.blocks_of m.place_of c.requires.sound.blocks c.args.region c.in-Some.block c.loop-cursor.cursor c.get_next-cursor.result c.in-Some.is c.loop-cursor.invariant.0 c.get_next-cursor.ensures (block_by m (walk m)) (nodes_in c.loop-cursor.nodes) (nodes_in c.args.nodes.now) c.loop-cursor.invariant.1 (nodes_in c.walk_block.new.nodes) c.walk_block.ensures

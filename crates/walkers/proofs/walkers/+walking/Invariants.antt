@@ -5,7 +5,7 @@ use Rattle.tables.specs.View.{view}
 use Rattle.walkers.specs.Listed.{nodes_in}
 use Rattle.walkers.proofs.Places.{rest_from}
 use Rattle.walkers.proofs.Regions.{inside}
-use Rattle.walkers.proofs.Turns.{At}
+use Rattle.walkers.proofs.Turns.{Midway}
 use Rattle.walkers.proofs.walkers.+walking.Given as goal
 
 abbrev pub decreases-walk_block : goal.decreases-walk_block
@@ -19,8 +19,7 @@ decreases-walk_region l = 2 * length (region_by (view l.tables.now) (walk (view 
 
 abbrev pub invariant-walk_block-loop-cursor : goal.invariant-walk_block-loop-cursor
 invariant-walk_block-loop-cursor l =
-    At (view l.tables).ops_of l.block l.cursor
-    × (nodes_in l.nodes ++ flat_map (walk (view l.tables)) (rest_from l.cursor ((view l.tables).ops_of l.block)) ≡ nodes_in l.initial.nodes ++ flat_map (walk (view l.tables)) ((view l.tables).ops_of l.block))
+    Midway (view l.tables).ops_of l.block (walk (view l.tables)) l.cursor (nodes_in l.nodes) (nodes_in l.initial.nodes)
 
 abbrev pub decreases-walk_block-loop-cursor : goal.decreases-walk_block-loop-cursor
 decreases-walk_block-loop-cursor l = length (rest_from l.cursor ((view l.tables).ops_of l.block))
@@ -30,8 +29,7 @@ invariant-walk_op-loop-region l = nodes_in l.nodes ++ flat_map (inside l.tables)
 
 abbrev pub invariant-walk_region-loop-cursor : goal.invariant-walk_region-loop-cursor
 invariant-walk_region-loop-cursor l =
-    At (view l.tables).blocks_of l.region l.cursor
-    × (nodes_in l.nodes ++ flat_map (block_by (view l.tables) (walk (view l.tables))) (rest_from l.cursor ((view l.tables).blocks_of l.region)) ≡ nodes_in l.initial.nodes ++ region_by (view l.tables) (walk (view l.tables)) l.region)
+    Midway (view l.tables).blocks_of l.region (block_by (view l.tables) (walk (view l.tables))) l.cursor (nodes_in l.nodes) (nodes_in l.initial.nodes)
 
 abbrev pub decreases-walk_region-loop-cursor : goal.decreases-walk_region-loop-cursor
 decreases-walk_region-loop-cursor l = length (rest_from l.cursor ((view l.tables).blocks_of l.region))
