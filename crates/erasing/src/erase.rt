@@ -9,9 +9,10 @@ ghost use Rattle.tables.specs.View.{view, sizes, view_op, Changed};
 
 use lists::lists::LinkedLists;
 use model::ids::{IRNode, RegionId};
+use model::limits::MAX_REGIONS;
 use row::Row;
 use slots::Table;
-use tables::records::{NO_REGION, Operation};
+use tables::records::Operation;
 use tables::tables::Tables;
 
 /// Takes `node` out of the list that it is in, where it is in one.
@@ -24,10 +25,10 @@ fn take_out(lists: &mut LinkedLists, node: usize)
 }
 
 /// The regions that are not in `slot`, in their order.
-fn others(regions: &Row<RegionId, 4>, slot: usize) -> Row<RegionId, 4>
+fn others(regions: &Row<RegionId, MAX_REGIONS>, slot: usize) -> Row<RegionId, MAX_REGIONS>
     ensures { row_items result ≡ less (λ (q : RegionId). nat_eq q.slot slot) (row_items regions.now) }
 {
-    let mut rest: Row<RegionId, 4> = Row::empty(NO_REGION);
+    let mut rest = Row::default();
     for region in regions
         .as_slice()
         .iter()
@@ -42,11 +43,9 @@ fn others(regions: &Row<RegionId, 4>, slot: usize) -> Row<RegionId, 4>
 fn disown(operations: &mut Table<Operation>, owner: usize, slot: usize)
     ensures { Changed view_op (disowned (λ k. nat_eq k slot)) owner operations.old operations.new }
 {
-    if owner >= operations.len() {
-        return;
-    }
-    let operation = &mut operations.slots[owner].content;
-    operation.regions = others(&operation.regions, slot);
+    operations.change(owner, |operation| {
+        operation.regions = others(&operation.regions, slot);
+    });
 }
 
 /// Takes `node` out of the list that it is in, and frees its slot.
