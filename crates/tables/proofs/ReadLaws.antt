@@ -1,5 +1,5 @@
 -- What is read of the tables.
-use Rattle.std.proofs.Common.{◌≡◌, ℕ, zero, suc, ◌+◌, ◌<◌, Bool, ◌&&◌, ltb, List, [], ◌∷◌, length, get_or, drop, is_some, Some, None, Option, sym, ap, ◌∙◌, subst, inl, inr, arith, MatchOption}
+use Rattle.std.proofs.Common.{◌≡◌, ℕ, zero, suc, ◌+◌, ◌<◌, Bool, ◌&&◌, ltb, List, [], ◌∷◌, length, get_or, drop, is_some, Some, None, Option, sym, ap, ◌∙◌, subst, inl, inr, arith, MatchOption, MatchResult, Ok, Result}
 use Rattle.std.proofs.lemmas.List.{at_drop_more}
 use Rattle.std.proofs.lemmas.Bool.{lt-ltb, le-ltb, cases_lt}
 use Rattle.model.specs.declared.ids.Value.{Value}
@@ -35,3 +35,6 @@ values_step m vs i d b h e = ap (λ t. t && model.are_values m (drop (i + 1) vs)
 
 pub cases_some : {X : Type 0} (r : Option X) (P : Type 0) (Q : X → Type 0) (x : X) → MatchOption r P Q → r ≡ Some x → Q x
 cases_some r P Q x h e = subst (λ z. MatchOption z P Q) e h
+
+pub cases_ok : {X E : Type 0} (r : Result X E) (P : X → Type 0) (Q : E → Type 0) (x : X) → MatchResult r P Q → r ≡ Ok x → P x
+cases_ok r P Q x h e = subst (λ z. MatchResult z P Q) e h

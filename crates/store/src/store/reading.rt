@@ -19,7 +19,7 @@ fn first_results(op: OpId, count: usize) -> Row<Value, MAX_RESULTS>
     let mut values = Row::default();
     for index in 0..count {
         values.push(Value {
-            definer: op.into(),
+            definer: DefiningEntity::Op(op),
             index: index as u8,
         });
     }

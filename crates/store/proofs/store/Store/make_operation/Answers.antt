@@ -9,7 +9,7 @@ use Rattle.model.specs.Sound.{Sound}
 use Rattle.model.proofs.Making.{make_sound}
 use Rattle.model.proofs.Refusals.{make_free, make_live, passes}
 use Rattle.tables.specs.View.{view, view_op}
-use Rattle.tables.proofs.ReadLaws.{cases_some}
+use Rattle.tables.proofs.ReadLaws.{cases_some, cases_ok}
 use Rattle.model.specs.Later.{Later}
 use Rattle.model.proofs.Laters.{make_later}
 use Rattle.store.proofs.store.Store.make_operation.Goals as goal
@@ -24,7 +24,7 @@ invariant_of-self c =
     let made = c.make-made.ensures.made in
     let m = view c.args.self.now.tables in
     let vs = row_items c.unwrap-operand_row.result in
-    let e : vs ≡ c.args.operands.now = cases_some _ _ _ _ c.from_slice.ensures c.unwrap-operand_row.ensures in
+    let e : vs ≡ c.args.operands.now = cases_ok _ _ _ _ c.try_from.ensures c.unwrap-operand_row.ensures in
     let live : are_values m vs ≡ true = ap (are_values m) e ∙ make_live m c.args.operands.now c.args.result_types.now c.args.regions.now (sym (passes _ c.in_ok-check_make.ensures)) in record {
       good = ∥∥₁_map c.args.self.now.good (λ z. record {
         sized = c.make-made.ensures.sizes ∙ z.sized;

@@ -10,7 +10,7 @@ use Rattle.model.specs.Sound.{Sound}
 use Rattle.model.proofs.Placing.{create_allowed, created_sound, point_region}
 use Rattle.tables.specs.View.{view, view_block}
 use Rattle.store.proofs.GoodLaws.{sound_of, free_block_node, free_block_unplaced, region_within}
-use Rattle.tables.proofs.ReadLaws.{cases_some}
+use Rattle.tables.proofs.ReadLaws.{cases_some, cases_ok}
 use Rattle.store.proofs.store.Store.place_block.Goals as goal
 
 pub unwrap-slot-requires : goal.unwrap-slot-requires
@@ -57,7 +57,7 @@ returns c =
     let s = c.unwrap-slot.result in
     let p = c.args.point in
     let cs = cells t.blocks in
-    let e = cases_some _ _ _ _ c.from_slice.ensures c.unwrap-arguments.ensures in
+    let e = cases_ok _ _ _ _ c.try_from.ensures c.unwrap-arguments.ensures in
     let is = c.create.ensures.is in
     record {
       allowed = c.requires;
