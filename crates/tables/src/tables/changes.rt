@@ -34,11 +34,7 @@ pub fn exchange(value: Value, old: Value, new: Value) -> Value
 fn replace_uses(operands: &mut Row<Value, 8>, old: Value, new: Value)
     ensures { row_items operands.new ≡ map (replaced old new) (row_items operands.old) }
 {
-    for i in 0..operands.len() {
-        if let Some(value) = operands.get(i) {
-            operands.set(i, exchange(value, old, new));
-        }
-    }
+    operands.update(|value| exchange(value, old, new));
 }
 
 /// The argument `index` of the block in `slot` has the type `to`.
