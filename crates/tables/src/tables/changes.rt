@@ -32,11 +32,7 @@ pub fn exchange(value: Value, old: Value, new: Value) -> Value
 fn replace_uses(operands: &mut Row<Value, MAX_OPERANDS>, old: Value, new: Value)
     ensures { row_items operands.new ≡ map (replaced old new) (row_items operands.old) }
 {
-    let mut replaced = Row::default();
-    for value in operands.as_slice() {
-        replaced.push(exchange(*value, old, new));
-    }
-    *operands = replaced;
+    operands.update(|value| exchange(value, old, new));
 }
 
 /// The argument `index` of the block in `slot` has the type `to`.
