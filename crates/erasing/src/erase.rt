@@ -28,11 +28,11 @@ fn others(regions: &Row<RegionId, 4>, slot: usize) -> Row<RegionId, 4>
     ensures { row_items result ≡ less (λ (q : RegionId). nat_eq q.slot slot) (row_items regions.now) }
 {
     let mut rest: Row<RegionId, 4> = Row::empty(NO_REGION);
-    for region in regions
+    let kept = regions
         .as_slice()
         .iter()
-        .filter(|region| region.slot != slot)
-    {
+        .filter(|region| region.slot != slot);
+    for region in kept {
         rest.push(*region);
     }
     rest
