@@ -29,11 +29,11 @@ fn others(regions: &Row<RegionId, MAX_REGIONS>, slot: usize) -> Row<RegionId, MA
     ensures { row_items result ≡ less (λ (q : RegionId). nat_eq q.slot slot) (row_items regions.now) }
 {
     let mut rest = Row::default();
-    for region in regions
+    let kept = regions
         .as_slice()
         .iter()
-        .filter(|region| region.slot != slot)
-    {
+        .filter(|region| region.slot != slot);
+    for region in kept {
         rest.push(*region);
     }
     rest

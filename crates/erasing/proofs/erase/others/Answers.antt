@@ -12,7 +12,7 @@ push-requires c =
     let row = c.args.regions.now in
     let turn = YieldsList-turn
     (YieldsList-at c.into_iter-region-iterator.ensures.into_iter_gives
-    (YieldsList-from_filter _ (λ (q : RegionId). not (eqb q.slot c.args.slot)) (YieldsList-from_slice (row_items row) cc) c.filter-region-items.ensures.closure (λ x b q k. search (rules, tests))))
+    (YieldsList-from_filter _ (λ (q : RegionId). not (eqb q.slot c.args.slot)) (YieldsList-from_slice (row_items row) cc) c.filter-kept.ensures.closure (λ x b q k. search (rules, tests))))
     c.loop-region.yielded _ c.loop-region.yielded_by _ _ _ c.in-Some.is c.next.ensures.steps in
     let (_, _, same) = c.loop-region.invariant in
     let four : length (row_items row) ≤ 4 = omega (arith, length-take-le row.len row.items (omega (arith, row.sized, row.within)), row.within) in
@@ -23,7 +23,7 @@ pub returns : goal.returns
 returns c =
     let seen = YieldsList-end
     (YieldsList-at c.into_iter-region-iterator.ensures.into_iter_gives
-    (YieldsList-from_filter _ (λ (q : RegionId). not (eqb q.slot c.args.slot)) (YieldsList-from_slice (row_items c.args.regions.now) cc) c.filter-region-items.ensures.closure (λ x b q k. search (rules, tests))))
+    (YieldsList-from_filter _ (λ (q : RegionId). not (eqb q.slot c.args.slot)) (YieldsList-from_slice (row_items c.args.regions.now) cc) c.filter-kept.ensures.closure (λ x b q k. search (rules, tests))))
     c.loop-region.yielded _ c.loop-region.yielded_by _ _ c.in-None.is c.next.ensures.steps in
     let (_, _, same) = c.loop-region.invariant in
     same ∙ seen.0
