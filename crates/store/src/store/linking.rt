@@ -3,6 +3,7 @@ ghost use Rattle.std.specs.Prelude.{◌≡◌, ℕ, ◌+◌, ◌<◌, ◌≤◌,
 ghost use Rattle.model.specs.Calls.{unlink_refusal, unlink_at};
 ghost use Rattle.model.specs.Points.{create_refusal, Created, insert_refusal, inserted_at};
 ghost use Rattle.model.specs.Later.{Later};
+ghost use Rattle.model.specs.Refusals.{verdict};
 ghost use Rattle.store.specs.Meaning.{meaning};
 
 use crate::store::Store;
@@ -12,9 +13,9 @@ use model::refusal::Refusal;
 use row::Row;
 
 impl Store {
-    /// Why a block cannot be made at `point`.
-    pub fn check_create(&self, point: BlockInsertionPoint, arg_types: &[u32]) -> Option<Refusal>
-        ensures { result ≡ create_refusal (meaning self.now) point arg_types.now }
+    /// May a block be made at `point`? If not, why.
+    pub fn check_create(&self, point: BlockInsertionPoint, arg_types: &[u32]) -> Result<(), Refusal>
+        ensures { result ≡ verdict (create_refusal (meaning self.now) point arg_types.now) }
     {
         self.tables.check_create(point, arg_types)
     }
@@ -38,15 +39,13 @@ impl Store {
         ensures answer { MatchResult result (λ b. Created (meaning self.old) (meaning self.new) point arg_types.now b) (λ e. (create_refusal (meaning self.old) point arg_types.now ≡ Some e) × (meaning self.new ≡ meaning self.old)) }
         ensures later { Later (meaning self.old) (meaning self.new) }
     {
-        if let Some(refusal) = self.check_create(point, arg_types) {
-            return Err(refusal);
-        }
+        self.check_create(point, arg_types)?;
         Ok(self.place_block(point, arg_types))
     }
 
-    /// Why `op` cannot be put at `point`.
-    pub fn check_insert(&self, point: OpInsertionPoint, op: OpId) -> Option<Refusal>
-        ensures { result ≡ insert_refusal (meaning self.now) point op }
+    /// May `op` be put at `point`? If not, why.
+    pub fn check_insert(&self, point: OpInsertionPoint, op: OpId) -> Result<(), Refusal>
+        ensures { result ≡ verdict (insert_refusal (meaning self.now) point op) }
     {
         self.tables.check_insert(point, op)
     }
@@ -64,9 +63,7 @@ impl Store {
         ensures answer { MatchResult result (λ _. (insert_refusal (meaning self.old) point op ≡ None) × (meaning self.new ≡ inserted_at (meaning self.old) point op.slot)) (λ e. (insert_refusal (meaning self.old) point op ≡ Some e) × (meaning self.new ≡ meaning self.old)) }
         ensures later { Later (meaning self.old) (meaning self.new) }
     {
-        if let Some(refusal) = self.check_insert(point, op) {
-            return Err(refusal);
-        }
+        self.check_insert(point, op)?;
         self.link_operation(point, op);
         Ok(())
     }
@@ -76,9 +73,7 @@ impl Store {
         ensures answer { MatchResult result (λ _. (unlink_refusal (meaning self.old) op ≡ None) × (meaning self.new ≡ unlink_at (meaning self.old) op.slot ((meaning self.old).home_of op.slot))) (λ e. (unlink_refusal (meaning self.old) op ≡ Some e) × (meaning self.new ≡ meaning self.old)) }
         ensures later { Later (meaning self.old) (meaning self.new) }
     {
-        if let Some(refusal) = self.tables.check_unlink(op) {
-            return Err(refusal);
-        }
+        self.tables.check_unlink(op)?;
         self.tables.unlink(op.slot);
         Ok(())
     }

@@ -37,9 +37,7 @@ impl Store {
         ensures answer { MatchResult result (λ o. Made (meaning self.old) (meaning self.new) kind note operands.now result_types.now regions.now o) (λ e. (make_refusal (meaning self.old) operands.now result_types.now regions.now ≡ Some e) × (meaning self.new ≡ meaning self.old)) }
         ensures later { Later (meaning self.old) (meaning self.new) }
     {
-        if let Some(refusal) = self.tables.check_make(operands, result_types, regions) {
-            return Err(refusal);
-        }
+        self.tables.check_make(operands, result_types, regions)?;
         let slot = self.tables.operations.free_slot().unwrap();
         let operand_row = Row::from_slice(NO_VALUE, operands).unwrap();
         let result_row = Row::from_slice(0, result_types).unwrap();

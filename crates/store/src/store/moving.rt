@@ -2,6 +2,7 @@
 ghost use Rattle.std.specs.Prelude.{◌≡◌};
 ghost use Rattle.model.specs.Calls.{unlink_refusal};
 ghost use Rattle.model.specs.Moving.{names, same_slot, move_refusal, old_place};
+ghost use Rattle.model.specs.Refusals.{verdict};
 ghost use Rattle.store.specs.Meaning.{meaning};
 
 use crate::store::Store;
@@ -32,33 +33,33 @@ fn is_slot(found: Option<usize>, slot: usize) -> bool
 }
 
 impl Store {
-    /// Why `op` cannot be taken out of its block.
-    pub fn check_unlink(&self, op: OpId) -> Option<Refusal>
-        ensures { result ≡ unlink_refusal (meaning self.now) op }
+    /// May `op` be taken out of its block? If not, why.
+    pub fn check_unlink(&self, op: OpId) -> Result<(), Refusal>
+        ensures { result ≡ verdict (unlink_refusal (meaning self.now) op) }
     {
         self.tables.check_unlink(op)
     }
 
-    /// Why `op` cannot be moved to `point`.
-    pub fn check_move(&self, op: OpId, point: OpInsertionPoint) -> Option<Refusal>
-        ensures { result ≡ move_refusal (meaning self.now) op point }
+    /// May `op` be moved to `point`? If not, why.
+    pub fn check_move(&self, op: OpId, point: OpInsertionPoint) -> Result<(), Refusal>
+        ensures { result ≡ verdict (move_refusal (meaning self.now) op point) }
     {
         if self.tables.operation(op).is_none() || !self.tables.is_live_point(point) {
-            return Some(Refusal::NotLive);
+            return Err(Refusal::NotLive);
         }
         if point.is_unset() {
-            return Some(Refusal::PointUnset);
+            return Err(Refusal::PointUnset);
         }
         if self.tables.home_of(op.slot).is_none() || is_at(point, op) {
-            return Some(Refusal::NoBlock);
+            return Err(Refusal::NoBlock);
         }
         let Some(block) = self.tables.block_at(point) else {
-            return Some(Refusal::NoBlock);
+            return Err(Refusal::NoBlock);
         };
         if self.tables.lies_inside(op.slot, block) {
-            return Some(Refusal::Inside);
+            return Err(Refusal::Inside);
         }
-        None
+        Ok(())
     }
 
     /// Where `op` is: at its block's start, else at its end, else behind the operation before it.

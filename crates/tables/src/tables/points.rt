@@ -2,6 +2,7 @@
 ghost use Rattle.std.specs.Prelude.{◌≡◌, ℕ, ◌+◌, ◌<◌, ◌≤◌, true, is_some, Some, None};
 ghost use Rattle.lists.specs.Lists.{nodes, containers, members, home, Relinked};
 ghost use Rattle.model.specs.Points.{block_at_point, block_at, point_live, placed_at, inserted_at, insert_refusal, region_in, block_point_live, placed_block_at, create_refusal};
+ghost use Rattle.model.specs.Refusals.{verdict};
 ghost use Rattle.tables.specs.View.{view, sizes};
 
 use crate::tables::Tables;
@@ -90,45 +91,45 @@ impl Tables {
         }
     }
 
-    /// Why an operation cannot be put at `point`.
-    pub fn check_insert(&self, point: OpInsertionPoint, op: OpId) -> Option<Refusal>
-        ensures { result ≡ insert_refusal (view self.now) point op }
+    /// May `op` be put at `point`? If not, why.
+    pub fn check_insert(&self, point: OpInsertionPoint, op: OpId) -> Result<(), Refusal>
+        ensures { result ≡ verdict (insert_refusal (view self.now) point op) }
     {
         if self.operation(op).is_none() || !self.is_live_point(point) {
-            return Some(Refusal::NotLive);
+            return Err(Refusal::NotLive);
         }
         if point.is_unset() {
-            return Some(Refusal::PointUnset);
+            return Err(Refusal::PointUnset);
         }
         if self.home_of(op.slot).is_some() {
-            return Some(Refusal::InBlock);
+            return Err(Refusal::InBlock);
         }
         let Some(block) = self.block_at(point) else {
-            return Some(Refusal::NoBlock);
+            return Err(Refusal::NoBlock);
         };
         if self.lies_inside(op.slot, block) {
-            return Some(Refusal::Inside);
+            return Err(Refusal::Inside);
         }
-        None
+        Ok(())
     }
 
-    /// Why a block cannot be made at `point`.
-    pub fn check_create(&self, point: BlockInsertionPoint, arg_types: &[u32]) -> Option<Refusal>
-        ensures { result ≡ create_refusal (view self.now) point arg_types.now }
+    /// May a block be made at `point`? If not, why.
+    pub fn check_create(&self, point: BlockInsertionPoint, arg_types: &[u32]) -> Result<(), Refusal>
+        ensures { result ≡ verdict (create_refusal (view self.now) point arg_types.now) }
     {
         if self.blocks.free_count() == 0 {
-            return Some(Refusal::NoSlot);
+            return Err(Refusal::NoSlot);
         }
         if arg_types.len() > MAX_ARGUMENTS {
-            return Some(Refusal::TooMany);
+            return Err(Refusal::TooMany);
         }
         if !self.is_live_block_point(point) {
-            return Some(Refusal::NotLive);
+            return Err(Refusal::NotLive);
         }
         if point.is_unset() {
-            return Some(Refusal::PointUnset);
+            return Err(Refusal::PointUnset);
         }
-        None
+        Ok(())
     }
 
     /// Puts the operation in the slot `op`, which lies in no block, at `point`.

@@ -3,6 +3,7 @@ ghost use Rattle.std.specs.Prelude.{◌≡◌, ℕ, ◌+◌, ◌<◌, ◌≤◌,
 ghost use Rattle.std.specs.Option.{option_map};
 ghost use Rattle.model.specs.Model.{type_of, is_value, are_values, find_op, find_block, find_region, op_id, block_id, region_id};
 ghost use Rattle.model.specs.Calls.{make_refusal, unlink_refusal};
+ghost use Rattle.model.specs.Refusals.{verdict};
 ghost use Rattle.tables.specs.View.{view, view_op, view_block};
 
 use crate::records::{BasicBlock, Operation};
@@ -92,40 +93,40 @@ impl Tables {
         true
     }
 
-    /// Why an operation cannot be made.
+    /// May an operation be made? If not, why.
     pub fn check_make(
         &self,
         operands: &[Value],
         result_types: &[u32],
         regions: &[bool],
-    ) -> Option<Refusal>
-        ensures { result ≡ make_refusal (view self.now) operands.now result_types.now regions.now }
+    ) -> Result<(), Refusal>
+        ensures { result ≡ verdict (make_refusal (view self.now) operands.now result_types.now regions.now) }
     {
         if self.operations.free_count() == 0 || self.regions.free_count() < regions.len() {
-            return Some(Refusal::NoSlot);
+            return Err(Refusal::NoSlot);
         }
         if operands.len() > MAX_OPERANDS
             || result_types.len() > MAX_RESULTS
             || regions.len() > MAX_REGIONS
         {
-            return Some(Refusal::TooMany);
+            return Err(Refusal::TooMany);
         }
         if !self.are_values(operands) {
-            return Some(Refusal::NotLive);
+            return Err(Refusal::NotLive);
         }
-        None
+        Ok(())
     }
 
-    /// Why an operation cannot be taken out of its block.
-    pub fn check_unlink(&self, op: OpId) -> Option<Refusal>
-        ensures { result ≡ unlink_refusal (view self.now) op }
+    /// May `op` be taken out of its block? If not, why.
+    pub fn check_unlink(&self, op: OpId) -> Result<(), Refusal>
+        ensures { result ≡ verdict (unlink_refusal (view self.now) op) }
     {
         if self.operation(op).is_none() {
-            return Some(Refusal::NotLive);
+            return Err(Refusal::NotLive);
         }
         if self.home_of(op.slot).is_none() {
-            return Some(Refusal::NoBlock);
+            return Err(Refusal::NoBlock);
         }
-        None
+        Ok(())
     }
 }

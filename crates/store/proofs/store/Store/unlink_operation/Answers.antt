@@ -4,6 +4,7 @@ use Rattle.model.specs.Sound.{Sound}
 use Rattle.model.proofs.Unlinking.{unlink_sound}
 use Rattle.tables.specs.View.{view}
 use Rattle.model.specs.Later.{Later}
+use Rattle.model.proofs.Refusals.{passes}
 use Rattle.model.proofs.Laters.{unlink_later}
 use Rattle.store.proofs.store.Store.unlink_operation.Goals as goal
 
@@ -22,4 +23,4 @@ returns c =
     let m = view c.args.self.now.tables in
     let s = c.args.op.slot in
     let after = c.unlink.ensures.after in
-    record { answer = (sym c.in_default.ensures, after); later = subst (Later m) (sym after) (unlink_later m s (m.home_of s)) }
+    record { answer = (passes _ c.in_ok-check_unlink.ensures, after); later = subst (Later m) (sym after) (unlink_later m s (m.home_of s)) }
