@@ -1,4 +1,6 @@
 //! Identities and values.
+ghost use Rattle.std.specs.Prelude.{◌≡◌};
+ghost use Rattle.model.specs.declared.ids.IRNode.TheVariants as node;
 
 #[derive(Clone, Copy, Debug, PartialEq, Eq)]
 pub struct OpId {
@@ -38,6 +40,30 @@ pub enum IRNode {
     Operation(OpId),
     BasicBlock(BlockId),
     Region(RegionId),
+}
+
+impl From<OpId> for IRNode {
+    ghost from_gives = { λ op n. n ≡ node.Operation op };
+
+    fn from(op: OpId) -> IRNode {
+        IRNode::Operation(op)
+    }
+}
+
+impl From<BlockId> for IRNode {
+    ghost from_gives = { λ block n. n ≡ node.BasicBlock block };
+
+    fn from(block: BlockId) -> IRNode {
+        IRNode::BasicBlock(block)
+    }
+}
+
+impl From<RegionId> for IRNode {
+    ghost from_gives = { λ region n. n ≡ node.Region region };
+
+    fn from(region: RegionId) -> IRNode {
+        IRNode::Region(region)
+    }
 }
 
 /// What a region keeps besides its blocks.
