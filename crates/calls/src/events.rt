@@ -1,5 +1,8 @@
 //! What a recorder keeps of a change.
-use model::ids::{BlockId, OpId, RegionId, Value};
+ghost use Rattle.std.specs.Prelude.{◌≡◌};
+ghost use Rattle.calls.specs.Perform.{erasing};
+
+use model::ids::{BlockId, IRNode, OpId, RegionId, Value};
 use model::points::OpInsertionPoint;
 
 /// At most so many records are kept.
@@ -18,4 +21,17 @@ pub enum RecorderEvent {
     ValueTypeChanged(Value, u32, u32),
     /// The operation, and where it was.
     UnlinkedOperation(OpId, OpInsertionPoint),
+}
+
+impl RecorderEvent {
+    /// The record of a node that is erased.
+    pub fn erased(node: IRNode) -> RecorderEvent
+        ensures { result ≡ erasing node }
+    {
+        match node {
+            IRNode::Operation(op) => RecorderEvent::ErasedOperation(op),
+            IRNode::BasicBlock(block) => RecorderEvent::ErasedBlock(block),
+            IRNode::Region(region) => RecorderEvent::ErasedRegion(region),
+        }
+    }
 }

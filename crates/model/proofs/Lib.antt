@@ -30,3 +30,4 @@ pub mod Laters
 pub mod Lives
 pub mod Kept
 pub mod Lasting
+pub mod Equal

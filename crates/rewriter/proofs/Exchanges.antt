@@ -1,6 +1,7 @@
 -- Values that take the place of others one after the other, and the ways out of replacing an operation.
-use Rattle.std.proofs.Common.{◌≡◌, ℕ, suc, ◌+◌, ◌<◌, ◌≤◌, Bool, true, false, cond, ◌&&◌, eqb, List, [], ◌∷◌, ◌++◌, map, length, get_or, drop, is_some, Some, None, Option, sym, refl, ap, ◌∙◌, subst, append_assoc, append-nil, arith}
-use Rattle.std.proofs.lemmas.List.{drop_more, drop_all, length-map, length-append}
+use Rattle.std.proofs.Common.{◌≡◌, ℕ, suc, ◌+◌, Bool, true, false, cond, ◌&&◌, eqb, List, [], ◌∷◌, ◌++◌, map, length, is_some, Some, None, Option, sym, refl, ap, ◌∙◌, subst, append_assoc, inl, inr, arith}
+use mathlib.Core.Logic.{◌⊎◌}
+use Rattle.std.proofs.lemmas.List.{length-map, length-append}
 use Rattle.std.proofs.lemmas.Bool.{and_parts}
 use Rattle.model.specs.declared.ids.OpId.{OpId}
 use Rattle.model.specs.declared.ids.Value.{Value}
@@ -10,6 +11,7 @@ use Rattle.model.specs.declared.refusal.Refusal.{Refusal}
 use Rattle.model.specs.declared.refusal.Refusal.TheVariants.{NotLive, CountsDiffer, StillUsed, OwnValue, RecordsFull}
 use Rattle.model.specs.Model.{Model, find_op, is_value, are_values, results_of}
 use Rattle.model.specs.Calls.{replace_all, result_values, replace_each}
+use Rattle.model.specs.Refusals.{verdict}
 use Rattle.model.specs.Erasing.{part_of, PartListed, Closed, used_outside, some_defined, erased}
 use Rattle.model.proofs.Changing.{replaced_values}
 use Rattle.model.proofs.Chains.{results_length}
@@ -21,7 +23,7 @@ use Rattle.calls.specs.Perform.{type_now, erasing, replacing, exchanging, allowi
 use Rattle.calls.proofs.Outcomes.{kept_append, fits_after, fits_list, fits_fewer}
 use Rattle.calls.proofs.Exchanging.{reused_each, results_live, replacing_later, replacing_length}
 use Rattle.calls.proofs.Accepting.{Exchangeable, with_allowed}
-use Rattle.rewriter.proofs.Ways.{none_picked, known_full, known_done}
+use Rattle.rewriter.proofs.Ways.{none_picked, kept_none, known_full, known_done}
 
 -- in the model m, and with the records es, ws are still to take the place of vs; that leads to the model n and the records fs
 pub record Ahead (keeps : Bool) (m : Model) (es : List RecorderEvent) (vs ws : List Value) (n : Model) (fs : List RecorderEvent) : Type 0 where
@@ -33,10 +35,8 @@ pub record Ahead (keeps : Bool) (m : Model) (es : List RecorderEvent) (vs ws : L
 
 module _ (keeps : Bool) (n : Model) (fs : List RecorderEvent) where
   -- the next two
-  pub ahead_next : (m : Model) (es : List RecorderEvent) (vs ws : List Value) (i : ℕ) (d e : Value) → i < length vs → i < length ws → Ahead keeps m es (drop i vs) (drop i ws) n fs
-      → Ahead keeps m es (get_or vs i d ∷ drop (i + 1) vs) (get_or ws i e ∷ drop (i + 1) ws) n fs
-  ahead_next m es vs ws i d e h k a =
-      subst (λ l. Ahead keeps m es (get_or vs i d ∷ drop (i + 1) vs) l n fs) (drop_more ws i e k) (subst (λ l. Ahead keeps m es l (drop i ws) n fs) (drop_more vs i d h) a)
+  pub ahead_next : (m : Model) (es : List RecorderEvent) (vs ws us ts : List Value) (v w : Value) → vs ≡ v ∷ us → ws ≡ w ∷ ts → Ahead keeps m es vs ws n fs → Ahead keeps m es (v ∷ us) (w ∷ ts) n fs
+  ahead_next m es vs ws us ts v w d e a = subst (λ l. Ahead keeps m es (v ∷ us) l n fs) e (subst (λ l. Ahead keeps m es l ws n fs) d a)
 
   module _ (m : Model) (es : List RecorderEvent) (v w : Value) (vs ws : List Value) (a : Ahead keeps m es (v ∷ vs) (w ∷ ws) n fs) where
     pub ahead_old : is_value m v ≡ true
@@ -68,29 +68,39 @@ module _ (keeps : Bool) (n : Model) (fs : List RecorderEvent) where
     pub ahead_step : (k : Model) (gs : List RecorderEvent) → k ≡ replace_all m v w → gs ≡ es ++ kept keeps (ReplacedValueUses v (type_now m v) w ∷ []) → Ahead keeps k gs vs ws n fs
     ahead_step k gs p q = subst (λ z. Ahead keeps k z vs ws n fs) (sym q) (subst (λ z. Ahead keeps z (es ++ kept keeps (ReplacedValueUses v (type_now m v) w ∷ [])) vs ws n fs) (sym p) one_done)
 
-  none_left : (m : Model) (es : List RecorderEvent) (ws : List Value) → Ahead keeps m es [] ws n fs → (m ≡ n) × (es ≡ fs)
-  none_left m es ws a = (a.model, at keeps ∙ a.records)
-    where
-      at : (b : Bool) → es ≡ es ++ kept b []
-      at true = sym (append-nil es)
-      at false = sym (append-nil es)
+  none_left : (m : Model) (vs ws : List Value) → (vs ≡ []) ⊎ (ws ≡ []) → (replace_each m vs ws ≡ m) × (replacing m vs ws ≡ [])
+  none_left m [] ws e = (refl, refl)
+  none_left m (v ∷ vs) [] e = (refl, refl)
+  none_left m (v ∷ vs) (w ∷ ws) (inl e) = absurd (omega (arith, ap length e))
+  none_left m (v ∷ vs) (w ∷ ws) (inr e) = absurd (omega (arith, ap length e))
 
-  pub ahead_done : (m : Model) (es : List RecorderEvent) (vs ws : List Value) (i : ℕ) → length vs ≤ i → Ahead keeps m es (drop i vs) (drop i ws) n fs → (m ≡ n) × (es ≡ fs)
-  ahead_done m es vs ws i h a = none_left m es (drop i ws) (subst (λ l. Ahead keeps m es l (drop i ws) n fs) (drop_all i vs h) a)
+  pub ahead_done : (m : Model) (es : List RecorderEvent) (vs ws : List Value) → (vs ≡ []) ⊎ (ws ≡ []) → Ahead keeps m es vs ws n fs → (m ≡ n) × (es ≡ fs)
+  ahead_done m es vs ws e a =
+      let h = none_left m vs ws e in
+      (sym h.0 ∙ a.model, kept_none keeps es ∙ ap (λ ks. es ++ kept keeps ks) (sym h.1) ∙ a.records)
+
+-- all are still to take their places
+pub ahead_start : (keeps : Bool) (m : Model) (es : List RecorderEvent) (vs ws us ts : List Value) → us ≡ vs → ts ≡ ws → are_values m vs ≡ true → are_values m ws ≡ true → fits keeps es (length vs) ≡ true
+    → Ahead keeps m es us ts (replace_each m vs ws) (es ++ kept keeps (replacing m vs ws))
+ahead_start keeps m es vs ws us ts d e olds news room =
+    let a : Ahead keeps m es vs ws (replace_each m vs ws) (es ++ kept keeps (replacing m vs ws)) = record { model = refl; records = refl; olds = olds; news = news; room = room } in
+    subst (λ l. Ahead keeps m es us l (replace_each m vs ws) (es ++ kept keeps (replacing m vs ws))) (sym e)
+    (subst (λ l. Ahead keeps m es l ws (replace_each m vs ws) (es ++ kept keeps (replacing m vs ws))) (sym d) a)
 
 -- the reasons against an exchange, in their order, by three tests
 abbrev reasons : Bool → Bool → Bool → Option Refusal
 reasons counts used own = cond counts (cond used (Some StillUsed) (cond own (Some OwnValue) None)) (Some CountsDiffer)
 
 pub exchange_reasons : (m : Model) (o : OpId) (vs ws : List Value) (ns : List IRNode) → vs ≡ result_values m o → ns ≡ part_of m (node.Operation o)
-    → (counts used own : Bool) → counts ≡ eqb (length vs) (length ws) → used ≡ used_outside (replace_each m vs ws) ns → own ≡ some_defined ns ws → reasons counts used own ≡ exchange_refusal m o ws
+    → (counts used own : Bool) → counts ≡ eqb (length vs) (length ws) → used ≡ used_outside (replace_each m vs ws) ns → own ≡ some_defined ns ws → verdict (reasons counts used own) ≡ verdict (exchange_refusal m o ws)
 exchange_reasons m o vs ws ns is p counts used own c u d =
     let part = part_of m (node.Operation o) in
     let olds = result_values m o in
     let many = length (results_of (find_op m o)) in
+    ap verdict (
     ap (λ b. reasons b used own) (c ∙ ap (λ k. eqb k (length ws)) (ap length is ∙ results_length o 0 many))
     ∙ ap (λ b. reasons (eqb many (length ws)) b own) (u ∙ ap (λ us. used_outside (replace_each m us ws) ns) is ∙ ap (used_outside (replace_each m olds ws)) p)
-    ∙ ap (λ b. reasons (eqb many (length ws)) (used_outside (replace_each m olds ws) part) b) (d ∙ ap (λ ks. some_defined ks ws) p)
+    ∙ ap (λ b. reasons (eqb many (length ws)) (used_outside (replace_each m olds ws) part) b) (d ∙ ap (λ ks. some_defined ks ws) p))
 
 -- an operation that is not live, and values that are not
 pub with_dead : (m : Model) (o : OpId) (ws : List Value) → is_some (find_op m o) ≡ false → with_refusal m o ws ≡ Some NotLive
@@ -104,11 +114,11 @@ pub record Exchange (m : Model) (o : OpId) (vs ws : List Value) (ns : List IRNod
   pub part : PartListed m (node.Operation o) ns
   pub olds : vs ≡ result_values m o
   pub news : true ≡ are_values m ws
-  pub allowed : None ≡ exchange_refusal m o ws
+  pub allowed : exchange_refusal m o ws ≡ None
 
 module _ (keeps : Bool) (w : World) (o : OpId) (vs ws : List Value) (ns : List IRNode) (x : Exchange w.model o vs ws ns) where
   not_against : with_refusal w.model o ws ≡ None
-  not_against = with_live w.model o ws x.part.allowed true x.news ∙ sym x.allowed
+  not_against = with_live w.model o ws x.part.allowed true x.news ∙ x.allowed
 
   can : Exchangeable w.model o ws
   can = with_allowed w.model o ws not_against

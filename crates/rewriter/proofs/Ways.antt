@@ -1,5 +1,5 @@
 -- The ways out of a method, from what its calls said.
-use Rattle.std.proofs.Common.{◌≡◌, ℕ, Bool, true, false, cond, List, [], ◌++◌, length, Some, None, Ok, Err, Option, Result, sym, refl, ap, ◌∙◌, subst, append-nil, MatchResult}
+use Rattle.std.proofs.Common.{◌≡◌, ℕ, Bool, true, false, cond, List, [], ◌++◌, length, Some, None, Ok, Err, Option, Result, sym, refl, ap, ◌∙◌, subst, append-nil, MatchResult, IsErrAnd}
 use Rattle.model.specs.declared.ids.OpId.{OpId}
 use Rattle.model.specs.declared.ids.Value.{Value}
 use Rattle.model.specs.declared.points.OpInsertionPoint.TheVariants as point
@@ -7,17 +7,28 @@ use Rattle.model.specs.declared.refusal.Refusal.{Refusal}
 use Rattle.model.specs.declared.refusal.Refusal.TheVariants.{RecordsFull}
 use Rattle.model.specs.Model.{Model}
 use Rattle.model.specs.Calls.{make_refusal, Made}
+use Rattle.model.specs.Refusals.{verdict}
+use Rattle.model.proofs.Refusals.{fails}
 use Rattle.calls.specs.declared.events.RecorderEvent.{RecorderEvent}
 use Rattle.calls.specs.World.{World, Call, Pick, Reply, make, insert, append, done, made, refused, kept, fits}
 use Rattle.calls.specs.Refusing.{refusal}
 use Rattle.calls.specs.Perform.{Outcome, events, changed, pointed, replied, allowing, settle, Could, Performed}
 use Rattle.calls.proofs.Outcomes.{not_refused, performed_refused, performed_full, performed_done}
 use Rattle.calls.proofs.Performing.{not_done}
-use Rattle.rewriter.specs.Seen.{told, told_op}
+use Rattle.rewriter.specs.Seen.{answered, told}
 
 -- a call that makes nothing picks no slot
 pub none_picked : Pick
 none_picked = record { op = 0; regions = []; block = 0 }
+
+-- a refusal e that is d, which `?` hands on
+pub handed : {A : Type 0} (keeps : Bool) (w : World) (c : Call) (v : World) (f : A → Reply) (e d : Refusal) (r : Result A Refusal) → IsErrAnd r (λ y. y ≡ e) → e ≡ d → Performed keeps w c v (refused d) → Performed keeps w c v (answered f r)
+handed keeps w c v f e d (Ok x) h is p = absurd h
+handed keeps w c v f e d (Err y) h is p = subst (λ z. Performed keeps w c v (refused z)) (sym (h ∙ is)) p
+
+-- that of a check
+pub checked : {A : Type 0} (keeps : Bool) (w : World) (c : Call) (f : A → Reply) (e : Refusal) (r : Result A Refusal) → IsErrAnd r (λ y. y ≡ e) → Err e ≡ verdict (refusal w c) → Performed keeps w c w (answered f r)
+checked keeps w c f e r h d = handed keeps w c w f e e r h refl (performed_refused keeps w c e (fails (refusal w c) e d))
 
 -- no record is kept
 pub kept_none : (keeps : Bool) (es : List RecorderEvent) → es ≡ es ++ kept keeps []
@@ -76,7 +87,7 @@ module _ (keeps : Bool) (w v : World) (o : OpId) where
 -- an operation was made, or not
 pub made_performed : (keeps : Bool) (w : World) (n : Model) (kind note : ℕ) (vs : List Value) (ts : List ℕ) (gs : List Bool) → fits keeps w.records 0 ≡ true
     → (r : Result OpId Refusal) → MatchResult r (λ o. Made w.model n kind note vs ts gs o) (λ e. (make_refusal w.model vs ts gs ≡ Some e) × (n ≡ w.model))
-    → Performed keeps w (make kind note vs ts gs) (record { model = n; point = w.point; records = w.records }) (told_op r)
+    → Performed keeps w (make kind note vs ts gs) (record { model = n; point = w.point; records = w.records }) (answered made r)
 made_performed keeps w n kind note vs ts gs f (Ok o) h =
     performed_done keeps w (make kind note vs ts gs) h.allowed (record { op = o.slot; regions = h.slots; block = 0 }) f h.usable
     (record { model = n; point = w.point; records = w.records }) h.after refl (kept_none keeps w.records) (made o) (ap made h.is)

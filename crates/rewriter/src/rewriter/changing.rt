@@ -1,14 +1,12 @@
 //! Changing values.
 ghost use Rattle.calls.specs.World.{set_type, replace_uses};
-ghost use Rattle.calls.specs.Perform.{Performed};
-ghost use Rattle.rewriter.specs.Seen.{world, told};
+ghost use Rattle.rewriter.specs.Seen.{Does, told};
 
 use crate::listener::RewriteListener;
 use crate::rewriter::IRRewriter;
 use calls::events::RecorderEvent;
 use model::ids::Value;
 use model::refusal::Refusal;
-use model::same::same_value;
 use store::store::Store;
 
 impl<L: RewriteListener> IRRewriter<L> {
@@ -19,7 +17,7 @@ impl<L: RewriteListener> IRRewriter<L> {
         value: Value,
         to: u32,
     ) -> Result<(), Refusal>
-        ensures { Performed L.keeps (world L.log store.old self.old) (set_type value to) (world L.log store.new self.new) (told result) }
+        ensures { Does L.keeps L.log store.old self.old (set_type value to) store.new self.new (told result) }
     {
         let Some(from) = store.value_type(value) else {
             return Err(Refusal::NotLive);
@@ -27,9 +25,7 @@ impl<L: RewriteListener> IRRewriter<L> {
         if from == to {
             return Ok(());
         }
-        if !self.listener.takes(1) {
-            return Err(Refusal::RecordsFull);
-        }
+        self.room(1)?;
         self.listener
             .notify(RecorderEvent::ValueTypeChanged(value, from, to));
         store.set_value_type(value, to)
@@ -42,7 +38,7 @@ impl<L: RewriteListener> IRRewriter<L> {
         old: Value,
         new: Value,
     ) -> Result<(), Refusal>
-        ensures { Performed L.keeps (world L.log store.old self.old) (replace_uses old new) (world L.log store.new self.new) (told result) }
+        ensures { Does L.keeps L.log store.old self.old (replace_uses old new) store.new self.new (told result) }
     {
         let Some(from) = store.value_type(old) else {
             return Err(Refusal::NotLive);
@@ -50,12 +46,10 @@ impl<L: RewriteListener> IRRewriter<L> {
         if store.value_type(new).is_none() {
             return Err(Refusal::NotLive);
         }
-        if same_value(old, new) {
+        if old == new {
             return Ok(());
         }
-        if !self.listener.takes(1) {
-            return Err(Refusal::RecordsFull);
-        }
+        self.room(1)?;
         self.listener
             .notify(RecorderEvent::ReplacedValueUses(old, from, new));
         store.replace_all_uses(old, new)

@@ -1,11 +1,10 @@
 //! Rewriters, and their insertion points.
 ghost use Rattle.std.specs.Prelude.{◌≡◌, IfOk};
 ghost use Rattle.model.specs.declared.points.OpInsertionPoint.TheVariants.{Unset};
-ghost use Rattle.calls.specs.World.{make};
-ghost use Rattle.calls.specs.Perform.{Performed};
+ghost use Rattle.calls.specs.World.{make, made};
 ghost use Rattle.calls.specs.Laws.{LawfulCalls, RefusedSame};
 ghost use Rattle.calls.specs.Examples.{ErasesTwoBlocks};
-ghost use Rattle.rewriter.specs.Seen.{world, told_op, PointSet};
+ghost use Rattle.rewriter.specs.Seen.{Does, answered, PointSet};
 
 use crate::listener::RewriteListener;
 use crate::rewriter::IRRewriter;
@@ -65,7 +64,7 @@ impl<L: RewriteListener> IRRewriter<L> {
         result_types: &[u32],
         regions: &[bool],
     ) -> Result<OpId, Refusal>
-        ensures { Performed L.keeps (world L.log store.old self.old) (make kind note operands.now result_types.now regions.now) (world L.log store.new self.new) (told_op result) }
+        ensures { Does L.keeps L.log store.old self.old (make kind note operands.now result_types.now regions.now) store.new self.new (answered made result) }
     {
         store.make_operation(kind, note, operands, result_types, regions)
     }

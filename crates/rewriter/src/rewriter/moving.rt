@@ -1,7 +1,6 @@
 //! Taking operations out of their blocks, and moving them.
 ghost use Rattle.calls.specs.World.{unlink, move};
-ghost use Rattle.calls.specs.Perform.{Performed};
-ghost use Rattle.rewriter.specs.Seen.{world, told};
+ghost use Rattle.rewriter.specs.Seen.{Does, told};
 
 use crate::listener::RewriteListener;
 use crate::rewriter::IRRewriter;
@@ -15,14 +14,10 @@ use store::store::Store;
 impl<L: RewriteListener> IRRewriter<L> {
     /// Takes `op` out of its block.
     pub fn unlink_operation(&mut self, store: &mut Store, op: OpId) -> Result<(), Refusal>
-        ensures { Performed L.keeps (world L.log store.old self.old) (unlink op) (world L.log store.new self.new) (told result) }
+        ensures { Does L.keeps L.log store.old self.old (unlink op) store.new self.new (told result) }
     {
-        if let Some(refusal) = store.check_unlink(op) {
-            return Err(refusal);
-        }
-        if !self.listener.takes(1) {
-            return Err(Refusal::RecordsFull);
-        }
+        store.check_unlink(op)?;
+        self.room(1)?;
         let old_place = store.old_place(op);
         self.listener
             .notify(RecorderEvent::UnlinkedOperation(op, old_place));
@@ -36,14 +31,10 @@ impl<L: RewriteListener> IRRewriter<L> {
         op: OpId,
         point: OpInsertionPoint,
     ) -> Result<(), Refusal>
-        ensures { Performed L.keeps (world L.log store.old self.old) (move op point) (world L.log store.new self.new) (told result) }
+        ensures { Does L.keeps L.log store.old self.old (move op point) store.new self.new (told result) }
     {
-        if let Some(refusal) = store.check_move(op, point) {
-            return Err(refusal);
-        }
-        if !self.listener.takes(2) {
-            return Err(Refusal::RecordsFull);
-        }
+        store.check_move(op, point)?;
+        self.room(2)?;
         self.unlink_operation(store, op)?;
         let mut scoped = ScopedRewriter::new(self, point);
         scoped.insert_operation(store, op)

@@ -4,13 +4,14 @@ ghost use Rattle.model.specs.declared.ids.IRNode.TheVariants.{Operation};
 ghost use Rattle.model.specs.Model.{is_value, are_values};
 ghost use Rattle.model.specs.Calls.{replace_all, replace_each};
 ghost use Rattle.model.specs.Erasing.{part_of};
+ghost use Rattle.model.specs.Refusals.{verdict};
 ghost use Rattle.walkers.specs.Listed.{nodes_in};
 ghost use Rattle.store.specs.Meaning.{meaning};
 ghost use Rattle.calls.specs.declared.events.RecorderEvent.TheVariants.{ReplacedValueUses};
 ghost use Rattle.calls.specs.World.{replace_with, replace_by, kept, fits};
 ghost use Rattle.calls.specs.Refusing.{exchange_refusal};
-ghost use Rattle.calls.specs.Perform.{Performed, type_now, replacing};
-ghost use Rattle.rewriter.specs.Seen.{world, told};
+ghost use Rattle.calls.specs.Perform.{type_now, replacing};
+ghost use Rattle.rewriter.specs.Seen.{Does, told};
 
 use crate::listener::RewriteListener;
 use crate::rewriter::IRRewriter;
@@ -42,34 +43,33 @@ fn replace_each<L: RewriteListener>(
     olds: &[Value],
     news: &[Value],
 )
-    requires counts { length olds.now ≡ length news.now }
     requires olds { are_values (meaning store.old) olds.now ≡ true }
     requires news { are_values (meaning store.old) news.now ≡ true }
     requires room { fits L.keeps (L.log listener.old) (length olds.now) ≡ true }
     ensures store { meaning store.new ≡ replace_each (meaning store.old) olds.now news.now }
     ensures log { L.log listener.new ≡ L.log listener.old ++ kept L.keeps (replacing (meaning store.old) olds.now news.now) }
 {
-    for i in 0..olds.len() {
-        replace_value(store, listener, olds[i], news[i]);
+    for (old, new) in olds.iter().zip(news) {
+        replace_value(store, listener, *old, *new);
     }
 }
 
-/// Why `values`, which are live, cannot take the place of `op`, whose part is `part`.
-fn check_exchange(store: &Store, op: OpId, part: &Nodes, values: &[Value]) -> Option<Refusal>
+/// May `values`, which are live, take the place of `op`, whose part is `part`? If not, why.
+fn check_exchange(store: &Store, op: OpId, part: &Nodes, values: &[Value]) -> Result<(), Refusal>
     requires { nodes_in part.now ≡ part_of (meaning store.now) (Operation op) }
-    ensures { result ≡ exchange_refusal (meaning store.now) op values.now }
+    ensures { result ≡ verdict (exchange_refusal (meaning store.now) op values.now) }
 {
     let results = store.results(op);
     if results.len() != values.len() {
-        return Some(Refusal::CountsDiffer);
+        return Err(Refusal::CountsDiffer);
     }
     if store.used_after(part, results.as_slice(), values) {
-        return Some(Refusal::StillUsed);
+        return Err(Refusal::StillUsed);
     }
     if some_defined(part.as_slice(), values) {
-        return Some(Refusal::OwnValue);
+        return Err(Refusal::OwnValue);
     }
-    None
+    Ok(())
 }
 
 impl<L: RewriteListener> IRRewriter<L> {
@@ -80,19 +80,15 @@ impl<L: RewriteListener> IRRewriter<L> {
         op: OpId,
         values: &[Value],
     ) -> Result<(), Refusal>
-        ensures { Performed L.keeps (world L.log store.old self.old) (replace_with op values.now) (world L.log store.new self.new) (told result) }
+        ensures { Does L.keeps L.log store.old self.old (replace_with op values.now) store.new self.new (told result) }
     {
         store.list_part(IRNode::Operation(op), &mut self.part)?;
         if !store.are_live(values) {
             return Err(Refusal::NotLive);
         }
-        if let Some(refusal) = check_exchange(store, op, &self.part, values) {
-            return Err(refusal);
-        }
+        check_exchange(store, op, &self.part, values)?;
         let results = store.results(op);
-        if !self.listener.takes(results.len() + self.part.len()) {
-            return Err(Refusal::RecordsFull);
-        }
+        self.room(results.len() + self.part.len())?;
         replace_each(store, &mut self.listener, results.as_slice(), values);
         notify_erasures(&mut self.listener, self.part.as_slice());
         store.erase_part(&self.part);
@@ -106,7 +102,7 @@ impl<L: RewriteListener> IRRewriter<L> {
         op: OpId,
         new_op: OpId,
     ) -> Result<(), Refusal>
-        ensures { Performed L.keeps (world L.log store.old self.old) (replace_by op new_op) (world L.log store.new self.new) (told result) }
+        ensures { Does L.keeps L.log store.old self.old (replace_by op new_op) store.new self.new (told result) }
     {
         if !store.is_live(IRNode::Operation(new_op)) {
             return Err(Refusal::NotLive);

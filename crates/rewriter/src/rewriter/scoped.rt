@@ -1,8 +1,7 @@
 //! An insertion point for a while.
 ghost use Rattle.std.specs.Prelude.{◌≡◌};
 ghost use Rattle.calls.specs.World.{insert};
-ghost use Rattle.calls.specs.Perform.{Performed};
-ghost use Rattle.rewriter.specs.Seen.{world, told};
+ghost use Rattle.rewriter.specs.Seen.{Does, told};
 
 use crate::listener::RewriteListener;
 use crate::rewriter::IRRewriter;
@@ -45,7 +44,7 @@ impl<'a, L: RewriteListener> ScopedRewriter<'a, L> {
 
     /// Puts `op` at the insertion point.
     pub fn insert_operation(&mut self, store: &mut Store, op: OpId) -> Result<(), Refusal>
-        ensures call { Performed L.keeps (world L.log store.old self.old.rewriter.now) (insert op) (world L.log store.new self.new.rewriter.now) (told result) }
+        ensures call { Does L.keeps L.log store.old self.old.rewriter.now (insert op) store.new self.new.rewriter.now (told result) }
         ensures previous { self.new.previous ≡ self.old.previous }
         ensures named { self.new.rewriter.ghost_name ≡ self.old.rewriter.ghost_name }
     {

@@ -21,8 +21,8 @@ loop-node-preserved g c =
     let ns = c.args.nodes.now in
     let i = c.loop-node.node-index in
     c.notify.ensures
-    ∙ ap (λ fs. fs ++ kept keeps (c.erasure.result ∷ [])) c.loop-node.invariant
-    ∙ ap (λ e. (es ++ kept keeps (map erasing (take i ns))) ++ kept keeps (e ∷ [])) c.erasure.ensures
+    ∙ ap (λ fs. fs ++ kept keeps (c.erased.result ∷ [])) c.loop-node.invariant
+    ∙ ap (λ e. (es ++ kept keeps (map erasing (take i ns))) ++ kept keeps (e ∷ [])) c.erased.ensures
     ∙ told_more keeps es (take i ns) _
     ∙ ap (λ ks. es ++ kept keeps (map erasing ks)) (sym (take_more ns i _ c.loop-node-test.true))
 
