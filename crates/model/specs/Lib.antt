@@ -8,3 +8,4 @@ pub mod Later
 pub mod Frames
 pub mod Walk
 pub mod Numbers
+pub mod Nodes

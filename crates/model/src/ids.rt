@@ -1,4 +1,7 @@
 //! Identities and values.
+ghost use Rattle.std.specs.Prelude.{◌≡◌};
+ghost use Rattle.model.specs.declared.ids.DefiningEntity.TheVariants.{Op, Block};
+ghost use Rattle.model.specs.declared.ids.IRNode.TheVariants.{Operation, BasicBlock, Region};
 
 #[derive(Clone, Copy, Debug, PartialEq, Eq)]
 pub struct OpId {
@@ -45,4 +48,57 @@ pub enum IRNode {
 pub struct Region {
     pub graph: bool,
     pub owner: OpId,
+}
+
+impl From<OpId> for DefiningEntity {
+    ghost from_gives = { λ op definer. definer ≡ Op op };
+
+    fn from(op: OpId) -> DefiningEntity {
+        DefiningEntity::Op(op)
+    }
+}
+
+impl From<BlockId> for DefiningEntity {
+    ghost from_gives = { λ block definer. definer ≡ Block block };
+
+    fn from(block: BlockId) -> DefiningEntity {
+        DefiningEntity::Block(block)
+    }
+}
+
+impl From<OpId> for IRNode {
+    ghost from_gives = { λ op node. node ≡ Operation op };
+
+    fn from(op: OpId) -> IRNode {
+        IRNode::Operation(op)
+    }
+}
+
+impl From<BlockId> for IRNode {
+    ghost from_gives = { λ block node. node ≡ BasicBlock block };
+
+    fn from(block: BlockId) -> IRNode {
+        IRNode::BasicBlock(block)
+    }
+}
+
+impl From<RegionId> for IRNode {
+    ghost from_gives = { λ region node. node ≡ Region region };
+
+    fn from(region: RegionId) -> IRNode {
+        IRNode::Region(region)
+    }
+}
+
+impl From<DefiningEntity> for IRNode {
+    ghost use Rattle.model.specs.Nodes.{node_of};
+
+    ghost from_gives = { λ definer node. node ≡ node_of definer };
+
+    fn from(definer: DefiningEntity) -> IRNode {
+        match definer {
+            DefiningEntity::Op(op) => IRNode::Operation(op),
+            DefiningEntity::Block(block) => IRNode::BasicBlock(block),
+        }
+    }
 }

@@ -2,50 +2,66 @@
 ghost use Rattle.std.specs.Prelude.{◌≡◌};
 ghost use Rattle.model.specs.Numbers.{number_of};
 
+use std::error::Error;
+use std::fmt;
+
 /// A call that could be refused for several reasons is refused for the one with the least number.
 #[derive(Clone, Copy, Debug, PartialEq, Eq)]
 pub enum Refusal {
     /// No slot that can be used.
-    NoSlot,
+    NoSlot = 1,
     /// More operands, results, regions or arguments than there is room for.
-    TooMany,
+    TooMany = 2,
     /// An identity or a value that is not live.
-    NotLive,
+    NotLive = 3,
     /// A place that is not set.
-    PointUnset,
+    PointUnset = 4,
     /// The operation already lies in a block.
-    InBlock,
+    InBlock = 5,
     /// The operation lies in no block.
-    NoBlock,
+    NoBlock = 6,
     /// The block lies inside the operation.
-    Inside,
+    Inside = 7,
     /// The operation has another number of results than values are given.
-    CountsDiffer,
+    CountsDiffer = 8,
     /// A value of the erased part would still be an operand outside it.
-    StillUsed,
+    StillUsed = 9,
     /// A replacing value is made by the operation or inside it.
-    OwnValue,
+    OwnValue = 10,
     /// The listener has no room for the records.
-    RecordsFull,
+    RecordsFull = 11,
 }
 
-impl Refusal {
-    /// The number that the rules give it.
-    pub fn number(self) -> u16
-        ensures { result ≡ number_of self }
-    {
-        match self {
-            Refusal::NoSlot => 1,
-            Refusal::TooMany => 2,
-            Refusal::NotLive => 3,
-            Refusal::PointUnset => 4,
-            Refusal::InBlock => 5,
-            Refusal::NoBlock => 6,
-            Refusal::Inside => 7,
-            Refusal::CountsDiffer => 8,
-            Refusal::StillUsed => 9,
-            Refusal::OwnValue => 10,
-            Refusal::RecordsFull => 11,
-        }
+/// The number that the rules give it.
+impl From<Refusal> for u16 {
+    ghost from_gives = { λ refusal number. number ≡ number_of refusal };
+
+    fn from(refusal: Refusal) -> u16 {
+        refusal as u16
     }
 }
+
+impl fmt::Display for Refusal {
+    ghost use Rattle.std.specs.Prelude.{Some};
+    ghost use Rattle.model.specs.Numbers.{words_of};
+
+    ghost output = { λ refusal. Some (words_of refusal) };
+
+    fn fmt<W: fmt::Write>(&self, f: &mut fmt::Formatter<W>) -> fmt::Result {
+        f.write_str(match self {
+            Refusal::NoSlot => "the store has no room for it",
+            Refusal::TooMany => "it has more operands, results or arguments than there is room for",
+            Refusal::NotLive => "it uses a value that is not there",
+            Refusal::PointUnset => "it has no place",
+            Refusal::InBlock => "it already lies in a block",
+            Refusal::NoBlock => "it lies in no block",
+            Refusal::Inside => "it would lie inside itself",
+            Refusal::CountsDiffer => "it has another number of results than what replaces it",
+            Refusal::StillUsed => "a value of it would still be used elsewhere",
+            Refusal::OwnValue => "what replaces it is made by it",
+            Refusal::RecordsFull => "there is no room for the records",
+        })
+    }
+}
+
+impl Error for Refusal {}

@@ -50,23 +50,6 @@ impl From<Refusal> for Reason {
     }
 }
 
-/// A refusal in a planner's words.
-pub fn words(refusal: Refusal) -> &'static str {
-    match refusal {
-        Refusal::NoSlot => "the store has no room for it",
-        Refusal::TooMany => "it has more operands, results or arguments than there is room for",
-        Refusal::NotLive => "it uses a value that is not there",
-        Refusal::PointUnset => "it has no place",
-        Refusal::InBlock => "it already lies in a block",
-        Refusal::NoBlock => "it lies in no block",
-        Refusal::Inside => "it would lie inside itself",
-        Refusal::CountsDiffer => "it has another number of results than what replaces it",
-        Refusal::StillUsed => "a value of it would still be used elsewhere",
-        Refusal::OwnValue => "what replaces it is made by it",
-        Refusal::RecordsFull => "there is no room for the records",
-    }
-}
-
 impl fmt::Display for Reason {
     fn fmt<W: fmt::Write>(&self, f: &mut fmt::Formatter<W>) -> fmt::Result {
         match *self {
@@ -94,9 +77,8 @@ impl fmt::Display for Reason {
             Reason::OrderWithOperands => write!(f, "the order itself has no operands"),
             Reason::Empty => write!(f, "there is no operation"),
             Reason::Refused(refusal) => {
-                let number = refusal.number();
-                let text = words(refusal);
-                write!(f, "refused by {number}: {text}")
+                let number = u16::from(refusal);
+                write!(f, "refused by {number}: {refusal}")
             }
         }
     }

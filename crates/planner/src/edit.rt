@@ -4,7 +4,6 @@ use calls::events::RecorderEvent;
 use model::ids::{IRNode, OpId};
 use model::points::OpInsertionPoint;
 use model::refusal::Refusal;
-use orders::reason::words;
 use rewriter::{IRRewriter, Recorder};
 use std::alloc::{AllocError, Global};
 use std::io;
@@ -96,9 +95,8 @@ pub fn print_edit(
     println!(rt; "{number}, of kind {kind}, is replaced by a ply of kind {ply_kind}")?;
     let mut rewriter = IRRewriter::new(heap, Recorder::new(heap)?)?;
     if let Err(refusal) = replace_kit(heap, store, &mut rewriter, kit, ply_kind)? {
-        let number = refusal.number();
-        let text = words(refusal);
-        return println!(rt; "refused by {number}: {text}");
+        let number = u16::from(refusal);
+        return println!(rt; "refused by {number}: {refusal}");
     }
     for event in rewriter.get_listener().events() {
         rt.println(record_line(heap, nodes.as_slice(), *event)?)?;

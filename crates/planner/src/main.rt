@@ -17,7 +17,7 @@ use walkers::Nodes;
 fn print_order(rt: &HostRuntime, store: &mut Store, root: OpId) -> io::Result<()> {
     let mut nodes = Nodes::new(rt.alloc())?;
     if let Err(refusal) = store.walk(root, &mut nodes) {
-        let number = refusal.number();
+        let number = u16::from(refusal);
         return println!(rt; "the order cannot be walked: refused by {number}");
     }
     print_listing(rt, store, nodes.as_slice())?;

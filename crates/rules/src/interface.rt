@@ -145,7 +145,7 @@ impl Fault {
             Fault::Full => 15,
             Fault::HistoryFull => 16,
             Fault::Conversion(_) => 17,
-            Fault::Rewriter(refusal) => refusal.number(),
+            Fault::Rewriter(refusal) => u16::from(refusal),
         }
     }
 

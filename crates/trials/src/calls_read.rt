@@ -16,7 +16,7 @@ fn told(
     match answer {
         Ok(()) => String::from_str(heap, "ok"),
         Err(refusal) => {
-            let number = refusal.number();
+            let number = u16::from(refusal);
             let after = snapshot(heap, bench)?;
             if after.as_str() == before {
                 format!(in heap; "refused {number}, nothing changed")
@@ -169,7 +169,7 @@ fn walk(heap: Global, bench: &mut Bench, name: &str) -> Result<String, AllocErro
     match bench.store.walk(op, &mut bench.nodes) {
         Ok(()) => nodes_text(heap, bench, bench.nodes.as_slice()),
         Err(refusal) => {
-            let number = refusal.number();
+            let number = u16::from(refusal);
             format!(in heap; "refused {number}")
         }
     }
@@ -180,7 +180,7 @@ fn part(heap: Global, bench: &mut Bench, name: &str) -> Result<String, AllocErro
     match bench.store.list_part(node, &mut bench.nodes) {
         Ok(()) => nodes_text(heap, bench, bench.nodes.as_slice()),
         Err(refusal) => {
-            let number = refusal.number();
+            let number = u16::from(refusal);
             format!(in heap; "refused {number}")
         }
     }
