@@ -1,4 +1,7 @@
 //! Why an order is not taken.
+ghost use Rattle.std.specs.Prelude.{◌≡◌};
+ghost use Rattle.orders.specs.declared.reason.Reason.TheVariants.{Memory, Refused};
+
 use model::refusal::Refusal;
 use std::alloc::{AllocError, AllocFailed};
 use std::error::Error;
@@ -34,18 +37,24 @@ pub enum Reason {
 }
 
 impl From<AllocError> for Reason {
+    ghost from_gives = { λ _ reason. reason ≡ Memory };
+
     fn from(_e: AllocError) -> Reason {
         Reason::Memory
     }
 }
 
 impl<T: Drop> From<AllocFailed<T>> for Reason {
+    ghost from_gives = { λ _ reason. reason ≡ Memory };
+
     fn from(_e: AllocFailed<T>) -> Reason {
         Reason::Memory
     }
 }
 
 impl From<Refusal> for Reason {
+    ghost from_gives = { λ refusal reason. reason ≡ Refused refusal };
+
     fn from(refusal: Refusal) -> Reason {
         Reason::Refused(refusal)
     }
