@@ -22,65 +22,41 @@ pub struct Line {
 
 /// Is there nothing on the line but space and a comment?
 pub fn is_blank(text: &str) -> bool {
-    match text.split_whitespace().next() {
-        Some(word) => word.starts_with("#"),
-        None => true,
-    }
+    text.split_whitespace()
+        .next()
+        .is_none_or(|word| word.starts_with("#"))
 }
 
-fn operand(text: &str, word: usize) -> Result<Reference, Reason> {
-    let Some((line, index)) = text.split_once(".") else {
-        return Err(Reason::BadOperand(word));
-    };
-    match (line.parse::<usize>(), index.parse::<u8>()) {
-        (Ok(line), Ok(index)) => Ok(Reference { line, index, word }),
-        _ => Err(Reason::BadOperand(word)),
-    }
+/// The value that `text`, the word at place `word`, names.
+fn operand(word: usize, text: &str) -> Option<Reference> {
+    let (line, index) = text.split_once(".")?;
+    Some(Reference {
+        line: line.parse().ok()?,
+        index: index.parse().ok()?,
+        word,
+    })
 }
 
 /// Reads `KIND NOTE OPERAND .. -> TYPE ..`, up to a `#`.
 pub fn read_line(heap: Global, text: &str) -> Result<Line, Reason> {
-    let mut operands = Vec::new(heap);
-    let mut types = Vec::new(heap);
-    let mut kind: Option<u16> = None;
-    let mut note: Option<u32> = None;
-    let mut arrow = false;
-    let mut place: usize = 0;
-    for word in text.split_whitespace() {
-        place = place.saturating_add(1);
-        if word.starts_with("#") {
-            break;
-        }
-        if kind.is_none() {
-            let Ok(number) = word.parse::<u16>() else {
-                return Err(Reason::BadKind);
-            };
-            kind = Some(number);
-        } else if note.is_none() {
-            let Ok(number) = word.parse::<u32>() else {
-                return Err(Reason::BadNote);
-            };
-            note = Some(number);
-        } else if word == "->" {
-            if arrow {
-                return Err(Reason::SecondArrow(place));
-            }
-            arrow = true;
-        } else if arrow {
-            let Ok(number) = word.parse::<u32>() else {
-                return Err(Reason::BadType(place));
-            };
-            types.push(number)?;
-        } else {
-            operands.push(operand(word, place)?)?;
-        }
-    }
-    let Some(kind) = kind else {
-        return Err(Reason::NoKind);
-    };
-    let Some(note) = note else {
-        return Err(Reason::NoNote);
-    };
+    let mut words = (1..)
+        .zip(text.split_whitespace())
+        .take_while(|(_, text)| !text.starts_with("#"));
+    let (_, kind) = words.next().ok_or(Reason::NoKind)?;
+    let kind = kind.parse().map_err(|_| Reason::BadKind)?;
+    let (_, note) = words.next().ok_or(Reason::NoNote)?;
+    let note = note.parse().map_err(|_| Reason::BadNote)?;
+    let operands = words
+        .by_ref()
+        .take_while(|(_, text)| *text != "->")
+        .map(|(word, text)| operand(word, text).ok_or(Reason::BadOperand(word)))
+        .try_collect(heap)?;
+    let types = words
+        .map(|(word, text)| match text {
+            "->" => Err(Reason::SecondArrow(word)),
+            _ => text.parse().map_err(|_| Reason::BadType(word)),
+        })
+        .try_collect(heap)?;
     Ok(Line {
         kind,
         note,

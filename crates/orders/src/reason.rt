@@ -1,10 +1,14 @@
 //! Why an order is not taken.
+ghost use Rattle.std.specs.Prelude.{◌≡◌};
+ghost use Rattle.orders.specs.declared.reason.Reason.TheVariants.{Memory, Refused};
+
 use model::refusal::Refusal;
 use std::alloc::{AllocError, AllocFailed};
+use std::error::Error;
 use std::fmt;
 
 /// What is wrong with a line. A word is named by its place in the line, the first being 1.
-#[derive(Clone, Copy, Drop)]
+#[derive(Clone, Copy, Debug, PartialEq, Eq)]
 pub enum Reason {
     /// No memory is left.
     Memory,
@@ -33,18 +37,24 @@ pub enum Reason {
 }
 
 impl From<AllocError> for Reason {
+    ghost from_gives = { λ _ reason. reason ≡ Memory };
+
     fn from(_e: AllocError) -> Reason {
         Reason::Memory
     }
 }
 
 impl<T: Drop> From<AllocFailed<T>> for Reason {
+    ghost from_gives = { λ _ reason. reason ≡ Memory };
+
     fn from(_e: AllocFailed<T>) -> Reason {
         Reason::Memory
     }
 }
 
 impl From<Refusal> for Reason {
+    ghost from_gives = { λ refusal reason. reason ≡ Refused refusal };
+
     fn from(refusal: Refusal) -> Reason {
         Reason::Refused(refusal)
     }
@@ -77,15 +87,16 @@ impl fmt::Display for Reason {
             Reason::OrderWithOperands => write!(f, "the order itself has no operands"),
             Reason::Empty => write!(f, "there is no operation"),
             Reason::Refused(refusal) => {
-                let number = u16::from(refusal);
-                write!(f, "refused by {number}: {refusal}")
+                write!(f, "refused by {}: {refusal}", u16::from(refusal))
             }
         }
     }
 }
 
+impl Error for Reason {}
+
 /// What is wrong, and in which line, the first being 1.
-#[derive(Clone, Copy, Drop)]
+#[derive(Clone, Copy, Debug, PartialEq, Eq)]
 pub struct Fault {
     pub line: usize,
     pub reason: Reason,
@@ -93,8 +104,8 @@ pub struct Fault {
 
 impl fmt::Display for Fault {
     fn fmt<W: fmt::Write>(&self, f: &mut fmt::Formatter<W>) -> fmt::Result {
-        let line = self.line;
-        let reason = self.reason;
-        write!(f, "line {line}: {reason}")
+        write!(f, "line {}: {}", self.line, self.reason)
     }
 }
+
+impl Error for Fault {}

@@ -1,5 +1,5 @@
 //! One edit of the order: its first kit becomes a ply.
-use crate::listing::{number_of, print_listing};
+use crate::listing::Listing;
 use calls::events::RecorderEvent;
 use model::ids::{IRNode, OpId};
 use model::points::OpInsertionPoint;
@@ -17,17 +17,34 @@ const LAST_KIT: u16 = 299;
 
 const TO_PLY: u16 = 100;
 
-/// The first kit among `nodes`, with its kind.
-fn first_kit(store: &Store, nodes: &[IRNode]) -> Option<(OpId, u16)> {
-    for node in nodes {
-        if let IRNode::Operation(op) = node {
-            match store.kind(*op) {
-                Some(kind) if kind >= FIRST_KIT && kind <= LAST_KIT => return Some((*op, kind)),
-                _ => {}
-            }
-        }
+/// Why a kit is not replaced.
+#[derive(Drop)]
+enum EditError {
+    Memory(AllocError),
+    Refused(Refusal),
+}
+
+impl From<AllocError> for EditError {
+    fn from(error: AllocError) -> EditError {
+        EditError::Memory(error)
     }
-    None
+}
+
+impl From<Refusal> for EditError {
+    fn from(refusal: Refusal) -> EditError {
+        EditError::Refused(refusal)
+    }
+}
+
+/// The first kit that is listed, with its kind.
+fn first_kit(listing: Listing<'_>) -> Option<(OpId, u16)> {
+    listing.nodes.iter().find_map(|node| match node {
+        IRNode::Operation(op) => match listing.store.kind(*op)? {
+            kind @ FIRST_KIT..=LAST_KIT => Some((*op, kind)),
+            _ => None,
+        },
+        _ => None,
+    })
 }
 
 /// Puts a ply with the kit's note, operands and result types before it, and replaces the kit by it.
@@ -37,45 +54,42 @@ fn replace_kit(
     rewriter: &mut IRRewriter<Recorder>,
     kit: OpId,
     ply_kind: u16,
-) -> Result<Result<(), Refusal>, AllocError> {
+) -> Result<(), EditError> {
     let note = store.note(kit).unwrap_or(0);
     let operands = store.operands(kit).unwrap_or(&[]).to_vec(heap)?;
     let types = store.result_types(kit).unwrap_or(&[]).to_vec(heap)?;
     rewriter.set_insertion_point(OpInsertionPoint::BeforeOperation(kit));
-    let made = rewriter.make_operation(
+    let ply = rewriter.make_operation(
         store,
         ply_kind,
         note,
         operands.as_slice(),
         types.as_slice(),
         &[],
-    );
-    let ply = match made {
-        Ok(ply) => ply,
-        Err(refusal) => return Ok(Err(refusal)),
-    };
-    if let Err(refusal) = rewriter.insert_operation(store, ply) {
-        return Ok(Err(refusal));
-    }
-    Ok(rewriter.replace_operation(store, kit, ply))
+    )?;
+    rewriter.insert_operation(store, ply)?;
+    rewriter.replace_operation(store, kit, ply)?;
+    Ok(())
 }
 
-/// What a record says. An operation that is not among `nodes` is the new one.
-fn record_line(heap: Global, nodes: &[IRNode], event: RecorderEvent) -> Result<String, AllocError> {
+/// What a record says, by the listing of what was before. An operation that is not listed is the new one.
+fn record_line(before: Listing<'_>, event: RecorderEvent) -> Result<String, AllocError> {
     match event {
-        RecorderEvent::InsertedOperation(op) => match number_of(nodes, op) {
-            0 => format!(in heap; "record: the ply was inserted"),
-            number => format!(in heap; "record: {number} was inserted"),
+        RecorderEvent::InsertedOperation(op) => match before.number_of(op) {
+            None => format!(in before.heap; "record: the ply was inserted"),
+            Some(number) => format!(in before.heap; "record: {number} was inserted"),
         },
         RecorderEvent::ErasedOperation(op) => {
-            let number = number_of(nodes, op);
-            format!(in heap; "record: {number} was erased")
+            let number = before.number_of(op).unwrap_or(0);
+            format!(in before.heap; "record: {number} was erased")
         }
         RecorderEvent::ReplacedValueUses(old, from, _) => {
             let index = old.index;
-            format!(in heap; "record: uses of its result {index}, of type {from}, were replaced")
+            format!(in before.heap;
+                "record: uses of its result {index}, of type {from}, were replaced"
+            )
         }
-        _ => format!(in heap; "record: another change"),
+        _ => format!(in before.heap; "record: another change"),
     }
 }
 
@@ -87,22 +101,28 @@ pub fn print_edit(
     nodes: &mut Nodes,
 ) -> io::Result<()> {
     let heap = rt.alloc();
-    let Some((kit, kind)) = first_kit(store, nodes.as_slice()) else {
+    let before = Listing::new(heap, store, nodes);
+    let Some((kit, kind)) = first_kit(before) else {
         return println!(rt; "there is no kit to replace");
     };
-    let number = number_of(nodes.as_slice(), kit);
+    let number = before.number_of(kit).unwrap_or(0);
     let ply_kind = kind.saturating_add(TO_PLY);
     println!(rt; "{number}, of kind {kind}, is replaced by a ply of kind {ply_kind}")?;
     let mut rewriter = IRRewriter::new(heap, Recorder::new(heap)?)?;
-    if let Err(refusal) = replace_kit(heap, store, &mut rewriter, kit, ply_kind)? {
-        let number = u16::from(refusal);
-        return println!(rt; "refused by {number}: {refusal}");
+    match replace_kit(heap, store, &mut rewriter, kit, ply_kind) {
+        Ok(()) => {}
+        Err(EditError::Memory(error)) => return Err(error.into()),
+        Err(EditError::Refused(refusal)) => {
+            let number = u16::from(refusal);
+            return println!(rt; "refused by {number}: {refusal}");
+        }
     }
+    let before = Listing::new(heap, store, nodes);
     for event in rewriter.get_listener().events() {
-        rt.println(record_line(heap, nodes.as_slice(), *event)?)?;
+        rt.println(record_line(before, *event)?)?;
     }
     match store.walk(root, nodes) {
-        Ok(()) => print_listing(rt, store, nodes.as_slice()),
+        Ok(()) => Listing::new(heap, store, nodes).print(rt),
         Err(_) => println!(rt; "the order has gone"),
     }
 }

@@ -2,115 +2,108 @@
 use model::ids::{BlockId, DefiningEntity, IRNode, OpId, Value};
 use std::alloc::{AllocError, Global};
 use std::collections::BTreeMap;
+use std::fmt::Write;
 use std::io;
 use store::store::Store;
+use walkers::Nodes;
 
-/// The place of an operation among the operations met, the first being 1; 0 where it is not among them.
-pub fn number_of(nodes: &[IRNode], op: OpId) -> usize {
-    let mut number: usize = 0;
-    for node in nodes {
-        if let IRNode::Operation(met) = node {
-            number = number.saturating_add(1);
-            if *met == op {
-                return number;
+fn push_types(types: &[u32], line: &mut String) -> Result<(), AllocError> {
+    for each in types {
+        write!(line, " {each}")?;
+    }
+    Ok(())
+}
+
+/// A store, and the nodes of it in the order of a walk.
+#[derive(Clone, Copy)]
+pub struct Listing<'a> {
+    pub heap: Global,
+    pub store: &'a Store,
+    pub nodes: &'a [IRNode],
+}
+
+impl<'a> Listing<'a> {
+    pub fn new(heap: Global, store: &'a Store, nodes: &'a Nodes) -> Listing<'a> {
+        Listing {
+            heap,
+            store,
+            nodes: nodes.as_slice(),
+        }
+    }
+
+    /// The place of an operation among the operations met, the first being 1.
+    pub fn number_of(&self, op: OpId) -> Option<usize> {
+        self.nodes
+            .iter()
+            .filter_map(|node| match node {
+                IRNode::Operation(met) => Some(*met),
+                _ => None,
+            })
+            .zip(1..)
+            .find(|(met, _)| *met == op)
+            .map(|(_, number)| number)
+    }
+
+    /// The number of the operation that a block lies in.
+    fn number_over(&self, block: BlockId) -> Option<usize> {
+        let region = self.store.get_parent_region(block)?;
+        self.number_of(self.store.get_parent_op(region)?)
+    }
+
+    /// A value by the number of its operation and its place among the results; an argument by the operation that its block lies in.
+    fn push_value(&self, value: Value, line: &mut String) -> Result<(), AllocError> {
+        let number = match value.definer {
+            DefiningEntity::Op(op) => self.number_of(op),
+            DefiningEntity::Block(block) => self.number_over(block),
+        };
+        write!(line, " {}.{}", number.unwrap_or(0), value.index)
+    }
+
+    /// `NUMBER: kind KIND note NOTE OPERAND .. -> TYPE ..`
+    fn operation_line(&self, op: OpId) -> Result<String, AllocError> {
+        let number = self.number_of(op).unwrap_or(0);
+        let kind = self.store.kind(op).unwrap_or(0);
+        let note = self.store.note(op).unwrap_or(0);
+        let mut line = format!(in self.heap; "{number}: kind {kind} note {note}")?;
+        for operand in self.store.operands(op).unwrap_or(&[]) {
+            self.push_value(*operand, &mut line)?;
+        }
+        line.push_str(" ->")?;
+        push_types(self.store.result_types(op).unwrap_or(&[]), &mut line)?;
+        Ok(line)
+    }
+
+    /// `block of NUMBER: TYPE ..`
+    fn block_line(&self, block: BlockId) -> Result<String, AllocError> {
+        let number = self.number_over(block).unwrap_or(0);
+        let mut line = format!(in self.heap; "block of {number}:")?;
+        push_types(self.store.argument_types(block).unwrap_or(&[]), &mut line)?;
+        Ok(line)
+    }
+
+    fn totals(&self) -> Result<BTreeMap<u16, u32>, AllocError> {
+        let mut all: BTreeMap<u16, u32> = BTreeMap::new(self.heap);
+        for node in self.nodes {
+            if let IRNode::Operation(op) = node {
+                let total = all.entry(self.store.kind(*op).unwrap_or(0))?.or_insert(0);
+                *total = total.saturating_add(1);
             }
         }
+        Ok(all)
     }
-    0
-}
 
-/// The operation that a block lies in.
-fn holder(store: &Store, block: BlockId) -> Option<OpId> {
-    let region = store.get_parent_region(block)?;
-    store.get_parent_op(region)
-}
-
-/// A value by the number of its operation and its place among the results; an argument by the operation that its block lies in.
-fn push_value(
-    heap: Global,
-    store: &Store,
-    nodes: &[IRNode],
-    value: Value,
-    line: &mut String,
-) -> Result<(), AllocError> {
-    let number = match value.definer {
-        DefiningEntity::Op(op) => number_of(nodes, op),
-        DefiningEntity::Block(block) => match holder(store, block) {
-            Some(op) => number_of(nodes, op),
-            None => 0,
-        },
-    };
-    let index = value.index;
-    let name = format!(in heap; " {number}.{index}")?;
-    line.push_str(name.as_str())
-}
-
-fn push_types(heap: Global, types: &[u32], line: &mut String) -> Result<(), AllocError> {
-    for each in types {
-        let text = format!(in heap; " {each}")?;
-        line.push_str(text.as_str())?;
-    }
-    Ok(())
-}
-
-/// `NUMBER: kind KIND note NOTE OPERAND .. -> TYPE ..`
-fn operation_line(
-    heap: Global,
-    store: &Store,
-    nodes: &[IRNode],
-    op: OpId,
-) -> Result<String, AllocError> {
-    let number = number_of(nodes, op);
-    let kind = store.kind(op).unwrap_or(0);
-    let note = store.note(op).unwrap_or(0);
-    let mut line = format!(in heap; "{number}: kind {kind} note {note}")?;
-    for operand in store.operands(op).unwrap_or(&[]) {
-        push_value(heap, store, nodes, *operand, &mut line)?;
-    }
-    line.push_str(" ->")?;
-    push_types(heap, store.result_types(op).unwrap_or(&[]), &mut line)?;
-    Ok(line)
-}
-
-/// `block of NUMBER: TYPE ..`
-fn block_line(
-    heap: Global,
-    store: &Store,
-    nodes: &[IRNode],
-    block: BlockId,
-) -> Result<String, AllocError> {
-    let number = match holder(store, block) {
-        Some(op) => number_of(nodes, op),
-        None => 0,
-    };
-    let mut line = format!(in heap; "block of {number}:")?;
-    push_types(heap, store.argument_types(block).unwrap_or(&[]), &mut line)?;
-    Ok(line)
-}
-
-fn totals(heap: Global, store: &Store, nodes: &[IRNode]) -> Result<BTreeMap<u16, u32>, AllocError> {
-    let mut all: BTreeMap<u16, u32> = BTreeMap::new(heap);
-    for node in nodes {
-        if let IRNode::Operation(op) = node {
-            let total = all.entry(store.kind(*op).unwrap_or(0))?.or_insert(0);
-            *total = total.saturating_add(1);
+    /// The nodes, a line each, then a total for each kind.
+    pub fn print(&self, rt: &HostRuntime) -> io::Result<()> {
+        for node in self.nodes {
+            match node {
+                IRNode::Operation(op) => rt.println(self.operation_line(*op)?)?,
+                IRNode::BasicBlock(block) => rt.println(self.block_line(*block)?)?,
+                IRNode::Region(_) => {}
+            }
         }
-    }
-    Ok(all)
-}
-
-/// The nodes in the order of the walk, a line each, then a total for each kind.
-pub fn print_listing(rt: &HostRuntime, store: &Store, nodes: &[IRNode]) -> io::Result<()> {
-    let heap = rt.alloc();
-    for node in nodes {
-        match node {
-            IRNode::Operation(op) => rt.println(operation_line(heap, store, nodes, *op)?)?,
-            IRNode::BasicBlock(block) => rt.println(block_line(heap, store, nodes, *block)?)?,
-            IRNode::Region(_) => {}
+        for (kind, total) in self.totals()?.iter() {
+            println!(rt; "total of kind {kind}: {total}")?;
         }
+        Ok(())
     }
-    for (kind, total) in totals(heap, store, nodes)?.iter() {
-        println!(rt; "total of kind {kind}: {total}")?;
-    }
-    Ok(())
 }

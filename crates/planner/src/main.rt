@@ -6,7 +6,7 @@ mod edit;
 mod listing;
 
 use crate::edit::print_edit;
-use crate::listing::print_listing;
+use crate::listing::Listing;
 use model::ids::OpId;
 use orders::load::load;
 use std::io;
@@ -20,7 +20,7 @@ fn print_order(rt: &HostRuntime, store: &mut Store, root: OpId) -> io::Result<()
         let number = u16::from(refusal);
         return println!(rt; "the order cannot be walked: refused by {number}");
     }
-    print_listing(rt, store, nodes.as_slice())?;
+    Listing::new(rt.alloc(), store, &nodes).print(rt)?;
     print_edit(rt, store, root, &mut nodes)
 }
 

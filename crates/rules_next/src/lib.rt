@@ -10,22 +10,16 @@ pub mod interface;
 pub use interface::{Layer, Phase};
 
 /// For every meaning of a conversion, every list of `begin` and `run` calls keeps the law.
-pub fn law_holds<C>(_conversion: &C) -> u8
+pub fn law_holds<C>(_conversion: &C)
     ensures { DriverLaw C }
-{
-    0
-}
+{}
 
 /// The rules leave nothing open but the slots that rewrites pick.
-pub fn rules_determined<C>(_conversion: &C) -> u8
+pub fn rules_determined<C>(_conversion: &C)
     ensures { RulesDetermined C }
-{
-    0
-}
+{}
 
 /// The rules let through no early end, no work beyond the budget, no invented wait or Circle, and no other store than the conversion's calls leave.
-pub fn rules_reject<C>(_conversion: &C) -> u8
+pub fn rules_reject<C>(_conversion: &C)
     ensures { RulesReject C }
-{
-    0
-}
+{}

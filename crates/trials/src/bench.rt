@@ -4,74 +4,65 @@ use model::ids::{BlockId, DefiningEntity, IRNode, OpId, RegionId, Value};
 use model::points::{BlockInsertionPoint, OpInsertionPoint};
 use rewriter::{IRRewriter, Recorder};
 use std::alloc::{AllocError, Global};
+use std::collections::BTreeMap;
 use store::store::Store;
 use walkers::Nodes;
 
 #[derive(Drop)]
-pub struct Named {
-    pub name: String,
-    pub node: IRNode,
-}
-
-#[derive(Drop)]
 pub struct Bench {
+    pub heap: Global,
     pub store: Store,
     pub rewriter: IRRewriter<Recorder>,
     pub nodes: Nodes,
-    pub names: Vec<Named>,
+    /// What was given each name, the last being what the name stands for.
+    pub names: BTreeMap<String, Vec<IRNode>>,
 }
 
-/// What stands for a thing that was never made.
-const NOBODY: OpId = OpId {
-    slot: 9999,
+/// The slot of what was never made.
+// Stays: a call of a dead identity is tried, so there has to be one to pass to it.
+const NO_SLOT: usize = 9999;
+
+const NO_OP: OpId = OpId {
+    slot: NO_SLOT,
     generation: 0,
 };
 
 impl Bench {
     pub fn new(heap: Global) -> Result<Bench, AllocError> {
-        let store = Store::new(heap)?;
-        let recorder = Recorder::new(heap)?;
-        let rewriter = IRRewriter::new(heap, recorder)?;
-        let nodes = Nodes::new(heap)?;
         Ok(Bench {
-            store,
-            rewriter,
-            nodes,
-            names: Vec::new(heap),
+            heap,
+            store: Store::new(heap)?,
+            rewriter: IRRewriter::new(heap, Recorder::new(heap)?)?,
+            nodes: Nodes::new(heap)?,
+            names: BTreeMap::new(heap),
         })
     }
 
     /// The last thing of this name.
-    fn named(&self, text: &str) -> IRNode {
-        let mut found = IRNode::Operation(NOBODY);
-        for named in self.names.as_slice() {
-            if named.name.as_str() == text {
-                found = named.node;
-            }
-        }
-        found
+    fn named(&self, name: &str) -> Option<IRNode> {
+        self.names.get(name)?.last().copied()
     }
 
     /// What a word names; `x/1` is the region 1 of the operation x.
     pub fn node(&self, text: &str) -> IRNode {
         if text.contains("/") {
-            return IRNode::Region(self.region(text));
+            return self.region(text).into();
         }
-        self.named(text)
+        self.named(text).unwrap_or(IRNode::Operation(NO_OP))
     }
 
-    pub fn op(&self, text: &str) -> OpId {
-        match self.named(text) {
-            IRNode::Operation(op) => op,
-            _ => NOBODY,
+    pub fn op(&self, name: &str) -> OpId {
+        match self.named(name) {
+            Some(IRNode::Operation(op)) => op,
+            _ => NO_OP,
         }
     }
 
-    pub fn block(&self, text: &str) -> BlockId {
-        match self.named(text) {
-            IRNode::BasicBlock(block) => block,
+    pub fn block(&self, name: &str) -> BlockId {
+        match self.named(name) {
+            Some(IRNode::BasicBlock(block)) => block,
             _ => BlockId {
-                slot: 9999,
+                slot: NO_SLOT,
                 generation: 0,
             },
         }
@@ -79,17 +70,14 @@ impl Bench {
 
     pub fn region(&self, text: &str) -> RegionId {
         let (name, index) = parted(text, "/");
-        let mut at: u32 = 0;
-        for region in self.store.regions(self.op(name)).unwrap_or(&[]) {
-            if at == index {
-                return *region;
-            }
-            at = at.saturating_add(1);
-        }
-        RegionId {
-            slot: 9999,
-            generation: 0,
-        }
+        self.store
+            .regions(self.op(name))
+            .and_then(|regions| regions.get(index as usize))
+            .copied()
+            .unwrap_or(RegionId {
+                slot: NO_SLOT,
+                generation: 0,
+            })
     }
 
     /// `x.1` is the result 1 of the operation x, or the argument 1 of the block x.
@@ -98,7 +86,7 @@ impl Bench {
         let definer = match self.node(name) {
             IRNode::Operation(op) => DefiningEntity::Op(op),
             IRNode::BasicBlock(block) => DefiningEntity::Block(block),
-            IRNode::Region(_) => DefiningEntity::Op(NOBODY),
+            IRNode::Region(_) => DefiningEntity::Op(NO_OP),
         };
         Value {
             definer,
@@ -107,91 +95,70 @@ impl Bench {
     }
 
     /// The values named from the word `from` on, up to an arrow or a slash.
-    pub fn values(&self, heap: Global, line: &str, from: usize) -> Result<Vec<Value>, AllocError> {
-        let mut all = Vec::new(heap);
-        let mut place: usize = 0;
-        for each in line.split_whitespace() {
-            if each == "->" || each == "/" {
-                break;
-            }
-            if place >= from {
-                all.push(self.value(each))?;
-            }
-            place = place.saturating_add(1);
-        }
-        Ok(all)
+    pub fn values(&self, line: &str, from: usize) -> Result<Vec<Value>, AllocError> {
+        line.split_whitespace()
+            .take_while(|each| *each != "->" && *each != "/")
+            .skip(from)
+            .map(|each| self.value(each))
+            .collect(self.heap)
+    }
+
+    /// The numbers behind the arrow, up to a slash.
+    pub fn types(&self, line: &str) -> Result<Vec<u32>, AllocError> {
+        line.split_whitespace()
+            .take_while(|each| *each != "/")
+            .skip_while(|each| *each != "->")
+            .skip(1)
+            .map(number)
+            .collect(self.heap)
+    }
+
+    /// The marks behind the slash: `graph` or anything else.
+    pub fn marks(&self, line: &str) -> Result<Vec<bool>, AllocError> {
+        line.split_whitespace()
+            .skip_while(|each| *each != "/")
+            .skip(1)
+            .map(|each| each == "graph")
+            .collect(self.heap)
     }
 
     /// The point that the words at `from` and behind it tell.
     pub fn op_point(&self, line: &str, from: usize) -> OpInsertionPoint {
-        let name = word(line, from.saturating_add(1));
-        match word(line, from) {
-            "start" => OpInsertionPoint::AtBlockStart(self.block(name)),
-            "end" => OpInsertionPoint::AtBlockEnd(self.block(name)),
-            "after" => OpInsertionPoint::AfterOperation(self.op(name)),
-            "before" => OpInsertionPoint::BeforeOperation(self.op(name)),
+        let mut words = line.split_whitespace().skip(from);
+        let (place, name) = (words.next(), words.next().unwrap_or(""));
+        match place {
+            Some("start") => OpInsertionPoint::AtBlockStart(self.block(name)),
+            Some("end") => OpInsertionPoint::AtBlockEnd(self.block(name)),
+            Some("after") => OpInsertionPoint::AfterOperation(self.op(name)),
+            Some("before") => OpInsertionPoint::BeforeOperation(self.op(name)),
             _ => OpInsertionPoint::Unset,
         }
     }
 
     pub fn block_point(&self, line: &str, from: usize) -> BlockInsertionPoint {
-        let name = word(line, from.saturating_add(1));
-        match word(line, from) {
-            "start" => BlockInsertionPoint::AtRegionStart(self.region(name)),
-            "end" => BlockInsertionPoint::AtRegionEnd(self.region(name)),
-            "after" => BlockInsertionPoint::AfterBlock(self.block(name)),
-            "before" => BlockInsertionPoint::BeforeBlock(self.block(name)),
+        let mut words = line.split_whitespace().skip(from);
+        let (place, name) = (words.next(), words.next().unwrap_or(""));
+        match place {
+            Some("start") => BlockInsertionPoint::AtRegionStart(self.region(name)),
+            Some("end") => BlockInsertionPoint::AtRegionEnd(self.region(name)),
+            Some("after") => BlockInsertionPoint::AfterBlock(self.block(name)),
+            Some("before") => BlockInsertionPoint::BeforeBlock(self.block(name)),
             _ => BlockInsertionPoint::Unset,
         }
     }
 
-    pub fn call(&mut self, heap: Global, name: &str, node: IRNode) -> Result<(), AllocError> {
-        let name = String::from_str(heap, name)?;
-        self.names.push(Named { name, node })?;
+    /// Gives a node that was just made the name at place `at` of the line.
+    pub fn call(&mut self, line: &str, at: usize, node: IRNode) -> Result<(), AllocError> {
+        let name = String::from_str(self.heap, word(line, at).unwrap_or(""))?;
+        self.names.entry(name)?.or_default().push(node)?;
         Ok(())
     }
 
     /// The name of a node, `?` where it has none.
     pub fn name_of(&self, node: IRNode) -> &str {
-        let mut found = "?";
-        for named in self.names.as_slice() {
-            if named.node == node {
-                found = named.name.as_str();
-            }
-        }
-        found
+        self.names
+            .iter()
+            .find(|(_, nodes)| nodes.contains(&node))
+            .map_or("?", |(name, _)| name.as_str())
     }
-}
-
-/// The numbers behind the arrow.
-pub fn types(heap: Global, line: &str) -> Result<Vec<u32>, AllocError> {
-    let mut all = Vec::new(heap);
-    let mut here = false;
-    for each in line.split_whitespace() {
-        if each == "/" {
-            break;
-        }
-        if here {
-            all.push(number(each))?;
-        }
-        if each == "->" {
-            here = true;
-        }
-    }
-    Ok(all)
-}
-
-/// The marks behind the slash: `graph` or anything else.
-pub fn marks(heap: Global, line: &str) -> Result<Vec<bool>, AllocError> {
-    let mut all = Vec::new(heap);
-    let mut here = false;
-    for each in line.split_whitespace() {
-        if here {
-            all.push(each == "graph")?;
-        }
-        if each == "/" {
-            here = true;
-        }
-    }
-    Ok(all)
 }

@@ -8,8 +8,6 @@ mod show;
 mod words;
 
 use crate::bench::Bench;
-use crate::calls_read::run;
-use crate::words::word;
 use std::io;
 
 fn main(rt: HostRuntime) -> io::Result<()> {
@@ -19,13 +17,17 @@ fn main(rt: HostRuntime) -> io::Result<()> {
     };
     let mut bench = Bench::new(heap)?;
     for line in text.as_str().lines() {
-        let first = word(line, 0);
-        if first == "new" {
-            bench = Bench::new(heap)?;
-            println!(rt; "new")?;
-        } else if first != "" && !first.starts_with("#") {
-            let answer = run(heap, &mut bench, line)?;
-            println!(rt; "{line}: {answer}")?;
+        match line.split_whitespace().next() {
+            None => {}
+            Some(word) if word.starts_with("#") => {}
+            Some("new") => {
+                bench = Bench::new(heap)?;
+                println!(rt; "new")?;
+            }
+            Some(_) => {
+                let answer = bench.run(line)?;
+                println!(rt; "{line}: {answer}")?;
+            }
         }
     }
     Ok(())
