@@ -1,3 +1,4 @@
+pub mod Same
 pub mod Places
 pub mod Rows
 pub mod Joins

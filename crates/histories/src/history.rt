@@ -1,6 +1,8 @@
 //! The types that one value had.
 use model::ids::Value;
 use row::Row;
+use std::error::Error;
+use std::fmt;
 
 /// At most so many types of a value are kept.
 pub const MAX_TYPES: usize = 16;
@@ -13,3 +15,15 @@ pub struct TypeHistory {
     pub value: Value,
     pub types: Row<u32, MAX_TYPES>,
 }
+
+/// A history would be too long, or there would be too many.
+#[derive(Clone, Copy, Debug, PartialEq, Eq)]
+pub struct HistoryFull;
+
+impl fmt::Display for HistoryFull {
+    fn fmt<W: fmt::Write>(&self, f: &mut fmt::Formatter<W>) -> fmt::Result {
+        write!(f, "a history is too long, or there are too many")
+    }
+}
+
+impl Error for HistoryFull {}
