@@ -15,8 +15,8 @@ use Rattle.histories.proofs.Same.{value_eq}
 -- the first entry of the value is the one that is looked for
 place_first : (v : Value) (xs : List TypeHistory) → place_of (histories xs) v ≡ position_or_len (λ (x : TypeHistory). ghosts.eq x.value v) xs
 place_first v = is_position_or_len (λ xs. place_of (histories xs) v) (λ x. ghosts.eq x.value v) refl (λ x xs.
-  let n : suc (place_of (histories xs) v) ≡ 1 + place_of (histories xs) v = omega arith in
-  ap (λ b. cond b 0 (suc (place_of (histories xs) v))) (sym (value_eq x.value v)) ∙ ap (cond (ghosts.eq x.value v) 0) n)
+    let n : suc (place_of (histories xs) v) ≡ 1 + place_of (histories xs) v = omega arith in
+    ap (λ b. cond b 0 (suc (place_of (histories xs) v))) (sym (value_eq x.value v)) ∙ ap (cond (ghosts.eq x.value v) 0) n)
 
 pub place_found : (xs : List TypeHistory) (v : Value) → position (λ (x : TypeHistory). ghosts.eq x.value v) xs ≡ place_in (histories xs) v
 place_found xs v =

@@ -7,4 +7,4 @@ mod joining;
 pub mod lookups;
 
 pub use histories::Histories;
-pub use history::{MAX_HISTORIES, MAX_TYPES, TypeHistory, HistoryFull};
+pub use history::{HistoryFull, MAX_HISTORIES, MAX_TYPES, TypeHistory};
