@@ -1,6 +1,10 @@
 //! The types that one value had.
+ghost use Rattle.rules_next.specs.declared.interface.Fault.TheVariants.{HistoryFull};
+ghost use Rattle.std.specs.Prelude.{◌≡◌};
+
 use model::ids::Value;
 use row::Row;
+use rules_next::interface::Fault;
 use std::error::Error;
 use std::fmt;
 
@@ -27,3 +31,11 @@ impl fmt::Display for HistoryFull {
 }
 
 impl Error for HistoryFull {}
+
+impl From<HistoryFull> for Fault {
+    ghost from_gives = { λ _ fault. fault ≡ HistoryFull };
+
+    fn from(_full: HistoryFull) -> Fault {
+        Fault::HistoryFull
+    }
+}
