@@ -1,8 +1,10 @@
 -- The last of a list.
-use Rattle.std.proofs.Common.{◌≡◌, ℕ, suc, ◌+◌, ◌-◌, ◌/◌, ◌<◌, Bool, cond, eqb, List, [], ◌∷◌, ◌++◌, length, get_or, take, Some, None, Option, sym, refl, ap, ◌∙◌, arith, Bor}
-use Rattle.std.specs.Option.{option_map}
+use Rattle.std.proofs.Common.{◌≡◌, ℕ, suc, ◌-◌, ◌/◌, ◌<◌, eqb, List, [], ◌∷◌, length, get_or, reverse, Some, None, Option, sym, refl, ap, ◌∙◌, arith, Bor}
+use Rattle.std.specs.List.{find}
+use Rattle.std.specs.Option.{option_map, option_or}
 use Rattle.std.specs.Slice.{IsGetResult}
-use Rattle.std.proofs.lemmas.List.{nil_from_length, take_more}
+use Rattle.std.proofs.lemmas.List.{nil_from_length, reverse-append}
+use Rattle.std.proofs.lemmas.List.Folds.{find-append}
 use Rattle.conversion.specs.Info.{or_before, last_type, of_kind, last_of_kind}
 
 last_there : (xs : List ℕ) (d : ℕ) → 0 < length xs → last_type xs ≡ Some (get_or xs (length xs - 1) d)
@@ -17,21 +19,19 @@ pub last_read : (xs : List ℕ) (r : Option (Bor ℕ)) → IsGetResult xs 0 (len
 last_read xs None i = sym (ap last_type (nil_from_length xs (omega (arith, i.3))))
 last_read xs (Some x) i = ap Some i.1 ∙ sym (last_there xs x.now (omega (arith, i.3.0)))
 
-before_none : (q : Option ℕ) → or_before q None ≡ q
-before_none None = refl
-before_none (Some t) = refl
+before_or : (p q : Option ℕ) → option_or p q ≡ or_before p q
+before_or None q = refl
+before_or (Some t) q = refl
 
-before_before : (p q r : Option ℕ) → or_before (or_before p q) r ≡ or_before p (or_before q r)
-before_before None q r = refl
-before_before (Some t) q r = refl
+-- the first from the back is the last
+pub kind_back : (k : ℕ) (xs : List ℕ) → find (λ t. eqb (t / 65536) k) (reverse xs) ≡ last_of_kind k xs
+kind_back k [] = refl
+kind_back k (t ∷ ts) =
+    ap (find (λ x. eqb (x / 65536) k)) (reverse-append (t ∷ []) ts)
+    ∙ find-append (λ x. eqb (x / 65536) k) (reverse ts) (t ∷ [])
+    ∙ before_or (find (λ x. eqb (x / 65536) k) (reverse ts)) (of_kind k t)
+    ∙ ap (λ q. or_before q (of_kind k t)) (kind_back k ts)
 
-module _ (k : ℕ) where
-  kind_push : (xs : List ℕ) (t : ℕ) → last_of_kind k (xs ++ t ∷ []) ≡ or_before (of_kind k t) (last_of_kind k xs)
-  kind_push [] t = sym (before_none (of_kind k t))
-  kind_push (x ∷ xs) t = ap (λ q. or_before q (of_kind k x)) (kind_push xs t) ∙ before_before (of_kind k t) (last_of_kind k xs) (of_kind k x)
-
-  -- one type further
-  pub kind_more : (xs : List ℕ) (i : ℕ) (b : Bool) → i < length xs → eqb (get_or xs i 0 / 65536) k ≡ b
-      → last_of_kind k (take (i + 1) xs) ≡ or_before (cond b (Some (get_or xs i 0)) None) (last_of_kind k (take i xs))
-  kind_more xs i b h e =
-      ap (last_of_kind k) (take_more xs i 0 h) ∙ kind_push (take i xs) (get_or xs i 0) ∙ ap (λ c. or_before (cond c (Some (get_or xs i 0)) None) (last_of_kind k (take i xs))) e
+pub same_option : {X : Type 0} (r : Option X) → option_map (λ x. x) r ≡ r
+same_option None = refl
+same_option (Some x) = refl

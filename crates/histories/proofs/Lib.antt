@@ -1,5 +1,5 @@
+pub mod Same
 pub mod Places
-pub mod Rows
 pub mod Joins
 pub mod Puts
 pub mod Values

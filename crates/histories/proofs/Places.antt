@@ -1,24 +1,45 @@
 -- Where the history of a value stands.
-use Rattle.std.proofs.Common.{◌≡◌, ℕ, suc, ◌+◌, ◌<◌, ◌≤◌, Bool, true, false, cond, List, [], ◌∷◌, length, get_or, drop, sym, refl, ap, ◌∙◌, arith}
-use Rattle.std.proofs.lemmas.List.{drop_more, drop_all, length-map, get_or-map}
+use Rattle.std.proofs.Common.{◌≡◌, ℕ, suc, ◌+◌, ◌<◌, ◌≤◌, Bool, true, false, cond, ltb, List, [], ◌∷◌, length, get_or, Some, None, sym, refl, ap, ◌∙◌, arith}
+use Rattle.std.specs.List.{position, position_or_len}
+use Rattle.std.proofs.lemmas.Bool.{ltb-true, ltb-false}
+use Rattle.std.proofs.lemmas.List.{length-map, get_or-map}
+use Rattle.std.proofs.lemmas.List.Recursion.{is_position_or_len}
 use Rattle.model.specs.declared.ids.Value.{Value}
 use Rattle.model.specs.Calls.{same_value}
+use Rattle.model.specs.contracts.ids.ValuePartialEq.TheImpl.{ghosts}
 use Rattle.rules_next.specs.Histories.{History, types_had}
 use Rattle.histories.specs.declared.history.TypeHistory.{TypeHistory}
-use Rattle.histories.specs.Kept.{history, histories, place_of}
+use Rattle.histories.specs.Kept.{history, histories, place_of, is_kept, place_in}
+use Rattle.histories.proofs.Same.{value_eq}
 
--- one entry further
-pub place_step : (xs : List TypeHistory) (v : Value) (i : ℕ) (x : TypeHistory) (b : Bool) → i < length xs → x ≡ get_or xs i x → b ≡ same_value x.value v
-    → place_of (histories (drop i xs)) v ≡ cond b 0 (suc (place_of (histories (drop (i + 1) xs)) v))
-place_step xs v i x b h e t =
-    ap (λ ys. place_of (histories ys) v) (drop_more xs i x h)
-    ∙ ap (λ c. cond c 0 (suc (place_of (histories (drop (i + 1) xs)) v))) (ap (λ (y : TypeHistory). same_value y.value v) (sym e) ∙ sym t)
+-- the first entry of the value is the one that is looked for
+place_first : (v : Value) (xs : List TypeHistory) → place_of (histories xs) v ≡ position_or_len (λ (x : TypeHistory). ghosts.eq x.value v) xs
+place_first v = is_position_or_len (λ xs. place_of (histories xs) v) (λ x. ghosts.eq x.value v) refl (λ x xs.
+    let n : suc (place_of (histories xs) v) ≡ 1 + place_of (histories xs) v = omega arith in
+    ap (λ b. cond b 0 (suc (place_of (histories xs) v))) (sym (value_eq x.value v)) ∙ ap (cond (ghosts.eq x.value v) 0) n)
 
-pub place_none : (xs : List TypeHistory) (v : Value) (i : ℕ) → length xs ≤ i → place_of (histories (drop i xs)) v ≡ 0
-place_none xs v i h = ap (λ ys. place_of (histories ys) v) (drop_all i xs h)
+pub place_found : (xs : List TypeHistory) (v : Value) → position (λ (x : TypeHistory). ghosts.eq x.value v) xs ≡ place_in (histories xs) v
+place_found xs v =
+    ap (λ n. cond (ltb n (length xs)) (Some n) None) (sym (place_first v xs))
+    ∙ ap (λ n. cond (ltb (place_of (histories xs) v) n) (Some (place_of (histories xs) v)) None) (sym (length-map xs history))
+
+module _ (hs : List History) (v : Value) where
+  place_some : (p : ℕ) → Some p ≡ place_in hs v → (p ≡ place_of hs v) × (place_of hs v < length hs)
+  place_some p = at (is_kept hs v) refl
+    where
+      at : (b : Bool) → is_kept hs v ≡ b → Some p ≡ cond b (Some (place_of hs v)) None → (p ≡ place_of hs v) × (place_of hs v < length hs)
+      at true e h = let q : p ≡ place_of hs v = cc in (q, ltb-true _ _ e)
+      at false e h = let z : ◌≡◌ {A = ℕ} 0 1 = cc in absurd (omega arith)
+
+  pub place_none : None ≡ place_in hs v → length hs ≤ place_of hs v
+  place_none = at (is_kept hs v) refl
+    where
+      at : (b : Bool) → is_kept hs v ≡ b → None ≡ cond b (Some (place_of hs v)) None → length hs ≤ place_of hs v
+      at true e h = let z : ◌≡◌ {A = ℕ} 0 1 = cc in absurd (omega arith)
+      at false e h = ltb-false _ _ e
 
 module _ (v : Value) where
-  pub types_there : (hs : List History) (d : History) → place_of hs v < length hs → types_had hs v ≡ (get_or hs (place_of hs v) d).types
+  types_there : (hs : List History) (d : History) → place_of hs v < length hs → types_had hs v ≡ (get_or hs (place_of hs v) d).types
   types_there [] d h = let no : ⊥ = omega arith in absurd no
   types_there (x ∷ hs) d h = at (same_value x.value v) h (types_there hs d)
     where
@@ -27,7 +48,7 @@ module _ (v : Value) where
       at true l rest = refl
       at false l rest = rest (omega arith)
 
-  pub types_nowhere : (hs : List History) → length hs ≤ place_of hs v → types_had hs v ≡ []
+  types_nowhere : (hs : List History) → length hs ≤ place_of hs v → types_had hs v ≡ []
   types_nowhere [] h = refl
   types_nowhere (x ∷ hs) h = at (same_value x.value v) h (types_nowhere hs)
     where
@@ -35,10 +56,17 @@ module _ (v : Value) where
       at true l rest = let no : ⊥ = omega arith in absurd no
       at false l rest = rest (omega arith)
 
--- the types of the entry at the place p
-pub types_read : (xs : List TypeHistory) (v : Value) (p : ℕ) (d : TypeHistory) → p ≡ place_of (histories xs) v → p < length xs → (history (get_or xs p d)).types ≡ types_had (histories xs) v
-types_read xs v p d e h =
-    let near : place_of (histories xs) v < length (histories xs) = omega (arith, length-map xs history) in
-    sym (ap (λ (y : History). y.types) (get_or-map history xs p d (history d) h))
-    ∙ ap (λ n. (get_or (histories xs) n (history d)).types) e
-    ∙ sym (types_there v (histories xs) (history d) near)
+-- what a look-up finds
+module _ (xs : List TypeHistory) (v : Value) where
+  pub place_read : (p : ℕ) → Some p ≡ place_in (histories xs) v → (p ≡ place_of (histories xs) v) × (p < length xs)
+  place_read p e = let q = place_some (histories xs) v p e in (q.0, omega (arith, q.0, q.1, length-map xs history))
+
+  pub types_read : (p : ℕ) (d : TypeHistory) → Some p ≡ place_in (histories xs) v → (history (get_or xs p d)).types ≡ types_had (histories xs) v
+  types_read p d e =
+      let q = place_some (histories xs) v p e in
+      sym (ap (λ (y : History). y.types) (get_or-map history xs p d (history d) (place_read p e).1))
+      ∙ ap (λ n. (get_or (histories xs) n (history d)).types) q.0
+      ∙ sym (types_there v (histories xs) (history d) q.1)
+
+  pub types_unread : None ≡ place_in (histories xs) v → [] ≡ types_had (histories xs) v
+  types_unread e = sym (types_nowhere v (histories xs) (place_none (histories xs) v e))

@@ -1,14 +1,14 @@
 -- A history that is put in its place, and one that goes.
-use Rattle.std.proofs.Common.{◌≡◌, ℕ, suc, ◌+◌, ◌<◌, ◌≤◌, Bool, true, false, cond, List, [], ◌∷◌, ◌++◌, length, set, filter, sym, refl, ap, ◌∙◌, arith}
+use Rattle.std.proofs.Common.{◌≡◌, ℕ, suc, ◌<◌, ◌≤◌, Bool, true, false, cond, List, [], ◌∷◌, ◌++◌, length, set, filter, Some, None, sym, refl, ap, ◌∙◌, arith}
 use Rattle.std.proofs.lemmas.List.{map-set, map_push, length-map}
-use Rattle.std.proofs.lemmas.Bool.{cond-false, le-ltb}
 use Rattle.row.specs.declared.row.Row.{Row}
 use Rattle.row.specs.Items.{row_items}
 use Rattle.model.specs.declared.ids.Value.{Value}
 use Rattle.model.specs.Calls.{same_value}
 use Rattle.rules_next.specs.Histories.{History, put_types}
 use Rattle.histories.specs.declared.history.TypeHistory.{TypeHistory}
-use Rattle.histories.specs.Kept.{history, histories, place_of, entries_of, is_kept, size_with}
+use Rattle.histories.specs.Kept.{history, histories, place_of, entries_of, place_in}
+use Rattle.histories.proofs.Places.{place_read, place_none}
 
 -- a test by the value alone is one of the history
 pub kept_histories : (f : Value → Bool) (xs : List TypeHistory) → histories (filter (entries_of f) xs) ≡ filter (λ (h : History). f h.value) (histories xs)
@@ -39,22 +39,14 @@ module _ (v : Value) (ts : List ℕ) where
       at true l rest = let no : ⊥ = omega arith in absurd no
       at false l rest = ap (λ ys. x ∷ ys) (rest (omega arith))
 
--- what is written at the place p, or behind the last
-module _ (xs : List TypeHistory) (v : Value) (p : ℕ) (is : p ≡ place_of (histories xs) v) where
-  near : p < length xs → place_of (histories xs) v < length (histories xs)
-  near h = omega (arith, is, length-map xs history)
-
-  far : length xs ≤ p → length (histories xs) ≤ place_of (histories xs) v
-  far h = omega (arith, is, length-map xs history)
-
-  pub put_at : (r : Row ℕ 16) → p < length xs → histories (set xs p (record { value = v; types = r })) ≡ put_types (histories xs) v (row_items r)
-  put_at r h =
+-- what is written at the place that a look-up finds, or behind the last
+module _ (xs : List TypeHistory) (v : Value) where
+  pub put_at : (p : ℕ) (r : Row ℕ 16) → Some p ≡ place_in (histories xs) v → histories (set xs p (record { value = v; types = r })) ≡ put_types (histories xs) v (row_items r)
+  put_at p r e =
+      let q = place_read xs v p e in
       map-set history xs p (record { value = v; types = r })
-      ∙ ap (λ n. set (histories xs) n (record { value = v; types = row_items r })) is
-      ∙ sym (put_there v (row_items r) (histories xs) (near h))
+      ∙ ap (λ n. set (histories xs) n (record { value = v; types = row_items r })) q.0
+      ∙ sym (put_there v (row_items r) (histories xs) (omega (arith, q.0, q.1, length-map xs history)))
 
-  pub put_end : (r : Row ℕ 16) → length xs ≤ p → histories (xs ++ record { value = v; types = r } ∷ []) ≡ put_types (histories xs) v (row_items r)
-  put_end r h = map_push history xs (record { value = v; types = r }) ∙ sym (put_nowhere v (row_items r) (histories xs) (far h))
-
-  pub size_end : length xs ≤ p → size_with (histories xs) v ≡ length xs + 1
-  size_end h = cond-false (is_kept (histories xs) v) _ _ (le-ltb _ _ (far h)) ∙ ap (λ n. n + 1) (length-map xs history)
+  pub put_end : (r : Row ℕ 16) → None ≡ place_in (histories xs) v → histories (xs ++ record { value = v; types = r } ∷ []) ≡ put_types (histories xs) v (row_items r)
+  put_end r e = map_push history xs (record { value = v; types = r }) ∙ sym (put_nowhere v (row_items r) (histories xs) (place_none (histories xs) v e))

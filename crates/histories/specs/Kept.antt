@@ -1,5 +1,5 @@
 -- What a history means.
-use Rattle.std.specs.Prelude.{ℕ, suc, ◌+◌, Bool, cond, List, [], ◌∷◌, map, length, nat_lt}
+use Rattle.std.specs.Prelude.{ℕ, suc, ◌+◌, Bool, cond, List, [], ◌∷◌, map, length, Some, None, Option, nat_lt}
 use Rattle.model.specs.declared.ids.Value.{Value}
 use Rattle.model.specs.Calls.{same_value}
 use Rattle.row.specs.Items.{row_items}
@@ -23,6 +23,10 @@ entries_of f h = f h.value
 
 abbrev pub is_kept : List History → Value → Bool
 is_kept hs v = nat_lt (place_of hs v) (length hs)
+
+-- where the history of a value stands, if it has one
+abbrev pub place_in : List History → Value → Option ℕ
+place_in hs v = cond (is_kept hs v) (Some (place_of hs v)) None
 
 -- how many histories there are once the value has one
 abbrev pub size_with : List History → Value → ℕ

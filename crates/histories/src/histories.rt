@@ -9,6 +9,7 @@ mod records;
 
 #[derive(Drop)]
 pub struct Histories {
+    // Stays: a list that is searched, and no map, since after `new` nothing allocates.
     entries: Vec<TypeHistory>,
     ghost within: { length entries.items ≤ 1024 },
     ghost reserved: { 1024 ≤ vec_capacity entries },

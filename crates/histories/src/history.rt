@@ -1,6 +1,12 @@
 //! The types that one value had.
+ghost use Rattle.rules_next.specs.declared.interface.Fault.TheVariants.{HistoryFull};
+ghost use Rattle.std.specs.Prelude.{◌≡◌};
+
 use model::ids::Value;
 use row::Row;
+use rules_next::interface::Fault;
+use std::error::Error;
+use std::fmt;
 
 /// At most so many types of a value are kept.
 pub const MAX_TYPES: usize = 16;
@@ -12,4 +18,24 @@ pub const MAX_HISTORIES: usize = 1024;
 pub struct TypeHistory {
     pub value: Value,
     pub types: Row<u32, MAX_TYPES>,
+}
+
+/// A history would be too long, or there would be too many.
+#[derive(Clone, Copy, Debug, PartialEq, Eq)]
+pub struct HistoryFull;
+
+impl fmt::Display for HistoryFull {
+    fn fmt<W: fmt::Write>(&self, f: &mut fmt::Formatter<W>) -> fmt::Result {
+        write!(f, "a history is too long, or there are too many")
+    }
+}
+
+impl Error for HistoryFull {}
+
+impl From<HistoryFull> for Fault {
+    ghost from_gives = { λ _ fault. fault ≡ HistoryFull };
+
+    fn from(_full: HistoryFull) -> Fault {
+        Fault::HistoryFull
+    }
 }

@@ -5,7 +5,6 @@ pub mod histories;
 pub mod history;
 mod joining;
 pub mod lookups;
-mod retaining;
 
 pub use histories::Histories;
-pub use history::{MAX_HISTORIES, MAX_TYPES, TypeHistory};
+pub use history::{HistoryFull, MAX_HISTORIES, MAX_TYPES, TypeHistory};

@@ -1,6 +1,6 @@
 -- Whether an operation lies in a graph region, as the readers of a store tell it.
-use Rattle.std.proofs.Common.{◌≡◌, ℕ, Bool, true, false, ◌&&◌, eqb, is_some, Some, None, Option, sym, refl, ap, ◌∙◌}
-use Rattle.std.specs.Option.{option_map}
+use Rattle.std.proofs.Common.{◌≡◌, ℕ, Bool, true, false, ◌&&◌, eqb, is_some, Some, None, Option, refl, ap, ◌∙◌}
+use Rattle.std.specs.Option.{MatchOption, option_map, unwrap_or}
 use Rattle.std.proofs.lemmas.Bool.{eq-eqb, cond-true, both_ways}
 use Rattle.slots.specs.Cells.{Cell, Free, Live, Spent, cell_at, is_live, live_of, under, holds}
 use Rattle.model.specs.declared.ids.OpId.{OpId}
@@ -12,8 +12,7 @@ use Rattle.model.specs.Sound.{Sound}
 use Rattle.rules_next.specs.Setting.{is_graph, in_graph}
 
 abbrev graph_or : Option Bool → Bool
-graph_or None = false
-graph_or (Some b) = b
+graph_or g = unwrap_or g false
 
 abbrev on_region : Model → Option RegionId → Bool
 on_region m None = false
@@ -63,5 +62,19 @@ module _ (m : Model) (s : Sound m) where
       go None = refl
       go (Some x) = at_block o.slot (m.home_of o.slot) refl
 
-  pub no_region : (o : OpId) (b : BlockId) → parent_block_of m o ≡ Some b → parent_region_of m b ≡ None → false ≡ (is_some (find_op m o) && in_graph m o.slot)
-  no_region o b e d = sym (ap (on_block m) e ∙ ap (on_region m) d) ∙ read_graph_lem o
+-- what is known of the option's item may be weakened
+pub weaker : {X : Type 0} (P : Type 0) (A B : X → Type 0) (q : Option X) → ((x : X) → A x → B x) → MatchOption q P A → MatchOption q P B
+weaker P A B None f h = h
+weaker P A B (Some x) f h = f x h
+
+-- the readers' answers, one from the other
+pub read_steps : (m : Model) (o : OpId) (q : Option BlockId) (r : Option RegionId) (g : Option Bool) → q ≡ parent_block_of m o → MatchOption q (r ≡ None) (λ b. r ≡ parent_region_of m b)
+    → MatchOption r (g ≡ None) (λ x. g ≡ option_map (λ (y : Region). y.graph) (find_region m x)) → unwrap_or g false ≡ read_graph m o
+read_steps m o q r g e h k = last r g k ∙ middle q r h ∙ ap (on_block m) e
+  where
+    last : (r : Option RegionId) (g : Option Bool) → MatchOption r (g ≡ None) (λ x. g ≡ option_map (λ (y : Region). y.graph) (find_region m x)) → unwrap_or g false ≡ on_region m r
+    last None g k = ap graph_or k
+    last (Some x) g k = ap graph_or k
+    middle : (q : Option BlockId) (r : Option RegionId) → MatchOption q (r ≡ None) (λ b. r ≡ parent_region_of m b) → on_region m r ≡ on_block m q
+    middle None r h = ap (on_region m) h
+    middle (Some b) r h = ap (on_region m) h

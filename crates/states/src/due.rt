@@ -23,26 +23,20 @@ use store::store::Store;
 fn in_graph(store: &Store, op: OpId) -> bool
     ensures { result ≡ (is_some (find_op (model store.now) op) && in_graph (model store.now) op.slot) }
 {
-    let Some(block) = store.get_parent_block(op) else {
-        return false;
-    };
-    let Some(region) = store.get_parent_region(block) else {
-        return false;
-    };
-    match store.is_graph(region) {
-        Some(graph) => graph,
-        None => false,
-    }
+    store
+        .get_parent_block(op)
+        .and_then(|block| store.get_parent_region(block))
+        .and_then(|region| store.is_graph(region))
+        .unwrap_or(false)
 }
 
 impl States {
     /// Is `op` to be rewritten? It is asked only while it is unmarked or queued.
     pub fn is_due<C: DialectConversion>(&self, store: &Store, conversion: &C, op: OpId) -> bool
-        ensures { result ≡ due (real C.DialectConversion.meaning) (at (model store.now) conversion.now) (marks_of (states_in self.now)) op }
+        ensures { result ≡ due (real C.meaning) (at (model store.now) conversion.now) (marks_of (states_in self.now)) op }
     {
         match self.state(store, op) {
-            OpState::Unmarked => conversion.can_convert_op(store, op),
-            OpState::Queued => conversion.can_convert_op(store, op),
+            OpState::Unmarked | OpState::Queued => conversion.can_convert_op(store, op),
             _ => false,
         }
     }
@@ -54,18 +48,13 @@ impl States {
         conversion: &C,
         value: Value,
     ) -> Option<OpId>
-        ensures { option_to_list result ≡ keep (due (real C.DialectConversion.meaning) (at (model store.now) conversion.now) (marks_of (states_in self.now))) (definer_of (model store.now) value.definer) }
+        ensures { option_to_list result ≡ keep (due (real C.meaning) (at (model store.now) conversion.now) (marks_of (states_in self.now))) (definer_of (model store.now) value.definer) }
     {
         let DefiningEntity::Op(definer) = value.definer else {
             return None;
         };
-        if !self.is_due(store, conversion, definer) {
-            return None;
-        }
-        if in_graph(store, definer) {
-            return None;
-        }
-        Some(definer)
+        let goes_first = self.is_due(store, conversion, definer) && !in_graph(store, definer);
+        goes_first.then_some(definer)
     }
 
     /// For each operand of `op` in order, the operation that defines it, where that is due and does not lie directly in a graph region.
@@ -75,7 +64,7 @@ impl States {
         conversion: &C,
         op: OpId,
     ) -> Row<OpId, MAX_OPERANDS>
-        ensures { row_items result ≡ dues (real C.DialectConversion.meaning) (at (model store.now) conversion.now) (marks_of (states_in self.now)) op }
+        ensures { row_items result ≡ dues (real C.meaning) (at (model store.now) conversion.now) (marks_of (states_in self.now)) op }
     {
         let mut found = Row::empty(op);
         let Some(operands) = store.operands(op) else {
@@ -96,15 +85,11 @@ impl States {
         conversion: &C,
         op: OpId,
     ) -> Option<OpId>
-        ensures { result ≡ plain (member (first_due (real C.DialectConversion.meaning) (at (model store.now) conversion.now) (marks_of (states_in self.now))) 512 op) }
+        ensures { result ≡ plain (member (first_due (real C.meaning) (at (model store.now) conversion.now) (marks_of (states_in self.now))) 512 op) }
     {
         let mut link = op;
         for _ in 0..OPERATIONS {
-            let definers = self.due_definers(store, conversion, link);
-            match definers.get(0) {
-                Some(definer) => link = definer,
-                None => return None,
-            }
+            link = self.due_definers(store, conversion, link).get(0)?;
         }
         Some(link)
     }

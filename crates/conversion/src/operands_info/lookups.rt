@@ -33,7 +33,7 @@ impl OperandsInfo {
         ensures { option_map (λ x. x.now) result ≡ some_types (types_had (info_of self.now) operand) }
     {
         let types = self.types(operand);
-        if types.len() == 0 { None } else { Some(types) }
+        if types.is_empty() { None } else { Some(types) }
     }
 
     /// The most recent type that `operand` had, where one was kept.
@@ -47,12 +47,10 @@ impl OperandsInfo {
     pub fn lookup_most_recent_of_type(&self, kind: u16, operand: Value) -> Option<u32>
         ensures { result ≡ last_of_kind kind (types_had (info_of self.now) operand) }
     {
-        let mut found = None;
-        for ty in self.types(operand) {
-            if *ty / 65536 == kind as u32 {
-                found = Some(*ty);
-            }
-        }
-        found
+        self.types(operand)
+            .iter()
+            .rev()
+            .copied()
+            .find(|ty| *ty / 65536 == u32::from(kind))
     }
 }

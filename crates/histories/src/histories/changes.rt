@@ -9,7 +9,6 @@ ghost use Rattle.histories.specs.Many.{kept};
 use super::Histories;
 use crate::history::{MAX_TYPES, TypeHistory};
 use crate::lookups::place_of;
-use crate::retaining::{AllBut, retain};
 use model::ids::Value;
 use row::Row;
 use store::store::Store;
@@ -19,22 +18,21 @@ impl Histories {
     pub fn forget_dead(&mut self, store: &Store)
         ensures { kept self.new ≡ live_only (meaning store.now) (kept self.old) }
     {
-        retain(&mut self.entries, store);
+        self.entries.retain(|entry| store.are_live(&[entry.value]));
     }
 
     /// Lets the history of `value` go.
     pub(super) fn drop_types(&mut self, value: Value)
         ensures { kept self.new ≡ drop_types (kept self.old) value }
     {
-        retain(&mut self.entries, &AllBut { value });
+        self.entries.retain(|entry| entry.value != value);
     }
 
     /// Does `value` have a history?
     pub(super) fn is_kept(&self, value: Value) -> bool
         ensures { result ≡ is_kept (kept self.now) value }
     {
-        let entries = self.entries.as_slice();
-        place_of(entries, value) < entries.len()
+        place_of(self.entries.as_slice(), value).is_some()
     }
 
     /// How many histories there are once `value` has one.
@@ -53,12 +51,10 @@ impl Histories {
         requires { size_with (kept self.old) value ≤ 1024 }
         ensures { kept self.new ≡ put_types (kept self.old) value (row_items types) }
     {
-        let place = place_of(self.entries.as_slice(), value);
         let entry = TypeHistory { value, types };
-        if place < self.entries.len() {
-            self.entries[place] = entry;
-        } else {
-            self.entries.push_reserved(entry);
+        match place_of(self.entries.as_slice(), value) {
+            Some(place) => self.entries[place] = entry,
+            None => self.entries.push_reserved(entry),
         }
     }
 }

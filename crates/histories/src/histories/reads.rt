@@ -43,11 +43,9 @@ impl Histories {
         ensures { history result ≡ history_of (kept self.now) value }
     {
         let entries = self.entries.as_slice();
-        let place = place_of(entries, value);
-        let types = if place < entries.len() {
-            entries[place].types
-        } else {
-            Row::empty(0)
+        let types = match place_of(entries, value) {
+            Some(place) => entries[place].types,
+            None => Row::empty(0),
         };
         TypeHistory { value, types }
     }

@@ -1,5 +1,5 @@
 //! What records tell of the types that values had.
-ghost use Rattle.std.specs.Prelude.{◌≡◌, ◌≤◌, length, is_some, if◌then◌else◌, nat_le};
+ghost use Rattle.std.specs.Prelude.{◌≡◌, ◌≤◌, length, is_some, is_ok, if◌then◌else◌, nat_le};
 ghost use Rattle.std.specs.Option.{unwrap_or};
 ghost use Rattle.row.specs.Items.{row_items};
 ghost use Rattle.rules_next.specs.Histories.{types_had, drop_types, add_type, add_types, changed_type, gone_over, within_limits, recorded};
@@ -7,11 +7,10 @@ ghost use Rattle.histories.specs.Kept.{size_with};
 ghost use Rattle.histories.specs.Many.{kept};
 
 use super::Histories;
-use crate::history::MAX_HISTORIES;
+use crate::history::{HistoryFull, MAX_HISTORIES};
 use crate::joining::{JOINED_TYPES, add_type, add_types};
 use calls::events::RecorderEvent;
 use model::ids::Value;
-use model::same::same_value;
 use row::Row;
 
 impl Histories {
@@ -20,13 +19,10 @@ impl Histories {
         ensures types { row_items result ≡ types_had (drop_types (kept self.now) gone) value }
         ensures count { length (row_items result) ≤ 16 }
     {
-        if same_value(value, gone) {
+        if value == gone {
             return Row::empty(0);
         }
-        match Row::from_slice(0, self.types_had(value)) {
-            Some(types) => types,
-            None => Row::empty(0),
-        }
+        Row::from_slice(0, self.types_had(value)).unwrap()
     }
 
     /// The types that `new` had, when those of `old` with `ty` at their end have gone over to it.
@@ -41,54 +37,47 @@ impl Histories {
     fn has_room(&self, old: Value, new: Value) -> bool
         ensures { result ≡ nat_le (size_with (drop_types (kept self.now) old) new) 1024 }
     {
-        if self.is_kept(old) {
-            return true;
-        }
-        self.size_with(new) <= MAX_HISTORIES
+        self.is_kept(old) || self.size_with(new) <= MAX_HISTORIES
     }
 
-    /// `value` had the type `ty` too. False where that passes a limit, and then nothing has changed.
-    fn change_type(&mut self, value: Value, ty: u32) -> bool
-        ensures test { result ≡ within_limits (changed_type (kept self.old) value ty) value }
-        ensures after { kept self.new ≡ (if result then changed_type (kept self.old) value ty else kept self.old) }
+    /// `value` had the type `ty` too. Where that passes a limit, nothing changes.
+    fn change_type(&mut self, value: Value, ty: u32) -> Result<(), HistoryFull>
+        ensures test { is_ok result ≡ within_limits (changed_type (kept self.old) value ty) value }
+        ensures after { kept self.new ≡ (if is_ok result then changed_type (kept self.old) value ty else kept self.old) }
     {
         let all = add_type(self.types_had(value), ty);
-        let Some(types) = Row::from_slice(0, all.as_slice()) else {
-            return false;
-        };
+        let types = Row::from_slice(0, all.as_slice()).ok_or(HistoryFull)?;
         if self.size_with(value) > MAX_HISTORIES {
-            return false;
+            return Err(HistoryFull);
         }
         self.put_types(value, types);
-        true
+        Ok(())
     }
 
-    /// What `old` had, with its type `ty`, goes over to `new`. False where that passes a limit, and then nothing has changed.
-    fn go_over(&mut self, old: Value, ty: u32, new: Value) -> bool
-        ensures test { result ≡ within_limits (gone_over (kept self.old) old ty new) new }
-        ensures after { kept self.new ≡ (if result then gone_over (kept self.old) old ty new else kept self.old) }
+    /// What `old` had, with its type `ty`, goes over to `new`. Where that passes a limit, nothing changes.
+    fn go_over(&mut self, old: Value, ty: u32, new: Value) -> Result<(), HistoryFull>
+        ensures test { is_ok result ≡ within_limits (gone_over (kept self.old) old ty new) new }
+        ensures after { kept self.new ≡ (if is_ok result then gone_over (kept self.old) old ty new else kept self.old) }
     {
         let all = self.types_over(old, ty, new);
-        let Some(types) = Row::from_slice(0, all.as_slice()) else {
-            return false;
-        };
+        let types = Row::from_slice(0, all.as_slice()).ok_or(HistoryFull)?;
         if !self.has_room(old, new) {
-            return false;
+            return Err(HistoryFull);
         }
         self.drop_types(old);
         self.put_types(new, types);
-        true
+        Ok(())
     }
 
-    /// Keeps what a record tells of types. False where that passes a limit, and then nothing has changed.
-    pub fn record(&mut self, event: RecorderEvent) -> bool
-        ensures test { result ≡ is_some (recorded (kept self.old) event) }
+    /// Keeps what a record tells of types. Where that passes a limit, nothing changes.
+    pub fn record(&mut self, event: RecorderEvent) -> Result<(), HistoryFull>
+        ensures test { is_ok result ≡ is_some (recorded (kept self.old) event) }
         ensures after { kept self.new ≡ unwrap_or (recorded (kept self.old) event) (kept self.old) }
     {
         match event {
             RecorderEvent::ReplacedValueUses(old, ty, new) => self.go_over(old, ty, new),
             RecorderEvent::ValueTypeChanged(value, ty, _) => self.change_type(value, ty),
-            _ => true,
+            _ => Ok(()),
         }
     }
 }

@@ -22,10 +22,7 @@ impl States {
     pub fn new(heap: Global) -> Result<States, AllocError>
         ensures { IfOk result (λ s. states_in s ≡ unmarked_all) }
     {
-        let mut entries = Vec::with_capacity(heap, OPERATIONS)?;
-        for _ in 0..OPERATIONS {
-            entries.push_reserved(FRESH);
-        }
+        let entries = vec![in heap; FRESH; OPERATIONS]?;
         Ok(States { entries })
     }
 
@@ -33,23 +30,16 @@ impl States {
     pub fn clear(&mut self)
         ensures { states_in self.new ≡ unmarked_all }
     {
-        for slot in 0..OPERATIONS {
-            self.entries[slot] = FRESH;
-        }
+        self.entries.fill(FRESH);
     }
 
     /// The state that is kept of `op`, whether it is live or not.
     fn kept(&self, op: OpId) -> OpState
         ensures { result ≡ kept_state (states_in self.now) op }
     {
-        if op.slot >= OPERATIONS {
-            return OpState::Unmarked;
-        }
-        let entry = self.entries[op.slot];
-        if entry.generation == op.generation {
-            entry.state
-        } else {
-            OpState::Unmarked
+        match self.entries.get(op.slot) {
+            Some(entry) if entry.generation == op.generation => entry.state,
+            _ => OpState::Unmarked,
         }
     }
 
@@ -57,10 +47,7 @@ impl States {
     pub fn is_unmarked(&self, op: OpId) -> bool
         ensures { result ≡ is_unmarked (marks_of (states_in self.now) op) }
     {
-        match self.kept(op) {
-            OpState::Unmarked => true,
-            _ => false,
-        }
+        matches!(self.kept(op), OpState::Unmarked)
     }
 
     /// The state of `op`: one that is not live is erased.
@@ -78,13 +65,10 @@ impl States {
         ensures test { result ≡ notable (meaning store.now) (states_in self.now) op }
         ensures within { result ≡ true → op.slot < 512 }
     {
-        if op.slot >= OPERATIONS {
+        let Some(entry) = self.entries.get(op.slot) else {
             return false;
-        }
-        if self.entries[op.slot].generation == op.generation {
-            return true;
-        }
-        store.is_live(IRNode::Operation(op))
+        };
+        entry.generation == op.generation || store.is_live(IRNode::Operation(op))
     }
 
     /// `event` happens to `op`.

@@ -5,7 +5,7 @@ use Rattle.histories.proofs.joining.add_type.Goals as goal
 pub push-requires : goal.push-requires
 push-requires c = (lit< tt, omega (arith, ap length c.without-all.ensures, length_less (eqb c.args.ty) c.args.types.now, c.requires))
 
-pub returns : goal.returns
-returns c =
+pub returns-clause-count : goal.returns-clause-count
+returns-clause-count c =
     let e = c.push.ensures ∙ ap (λ ts. ts ++ c.args.ty ∷ []) c.without-all.ensures in
-    record { items = e; count = omega (arith, ap length e, length_added c.args.types.now c.args.ty) }
+    omega (arith, ap length e, length_added c.args.types.now c.args.ty)

@@ -1,21 +1,12 @@
-use Rattle.std.proofs.Common.{true, false, zero-add, arith}
-use Rattle.histories.proofs.Places.{place_step, place_none}
+use Rattle.std.proofs.Common.{◌∙◌, rules}
+use Rattle.std.proofs.lemmas.Iterator.{YieldsList-from_slice}
+use Rattle.std.proofs.lemmas.Iterator.Search.{position_from_yields_List}
+use Rattle.model.specs.contracts.ids.ValuePartialEq.TheImpl.{ghosts}
+use Rattle.histories.specs.declared.history.TypeHistory.{TypeHistory}
+use Rattle.histories.proofs.Places.{place_found}
 use Rattle.histories.proofs.lookups.place_of.Goals as goal
 
-pub loop-place-init : goal.loop-place-init
-loop-place-init c = zero-add _
-
-pub returns-then-same_value : goal.returns-then-same_value
-returns-then-same_value c =
-    let e = place_step c.args.entries.now c.args.value c.loop-place.place c.index-entries-place.result true c.loop-place-test.true c.index-entries-place.is c.if-same_value.ensures in
-    omega (arith, e)
-
-pub loop-place-preserved : goal.loop-place-preserved
-loop-place-preserved c =
-    let e = place_step c.args.entries.now c.args.value c.loop-place.place c.index-entries-place.result false c.loop-place-test.true c.index-entries-place.is c.if-same_value.ensures in
-    omega (arith, e)
-
-pub returns : goal.returns
-returns c =
-    let e = place_none c.args.entries.now c.args.value c.loop-place.place c.loop-place-test.false in
-    omega (arith, e)
+pub returns-clause-place : goal.returns-clause-place
+returns-clause-place c =
+    position_from_yields_List (λ (x : TypeHistory). ghosts.eq x.value c.args.value) _ _ _ c.position.ensures.ran (YieldsList-from_slice c.args.entries.now cc) (λ x b q k. search rules)
+    ∙ place_found c.args.entries.now c.args.value

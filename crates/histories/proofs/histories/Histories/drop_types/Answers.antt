@@ -1,11 +1,17 @@
-use Rattle.std.proofs.Common.{not, vec_items, ap, ◌∙◌, arith}
-use Rattle.model.specs.Calls.{same_value}
-use Rattle.histories.specs.Kept.{histories}
+use Rattle.std.proofs.Common.{not, vec_items, filter, ap, ◌∙◌, rules}
+use mathlib.Core.Path.{fun_ext}
+use Rattle.std.proofs.lemmas.Fn.{filter_same}
+use Rattle.model.specs.contracts.ids.ValuePartialEq.TheImpl.{ghosts}
+use Rattle.rules_next.specs.Histories.{History}
+use Rattle.histories.specs.Kept.{histories, entries_of}
+use Rattle.histories.specs.Many.{kept}
 use Rattle.histories.proofs.Puts.{kept_histories}
+use Rattle.histories.proofs.Same.{value_eq}
 use Rattle.histories.proofs.histories.Histories.drop_types.Goals as goal
 
-pub invariant_of-self : goal.invariant_of-self
-invariant_of-self c = record { within = omega (arith, c.retain.ensures.count); reserved = omega (arith, c.retain.ensures.capacity) }
-
 pub returns : goal.returns
-returns c = ap histories c.retain.ensures.items ∙ kept_histories (λ v. not (same_value v c.args.value)) (vec_items c.args.self.now.entries)
+returns c =
+    let v = c.args.value in
+    ap histories (filter_same _ (entries_of (λ u. not (ghosts.eq u v))) _ (λ x b f k. search rules) _ _ c.retain.ensures.filtered)
+    ∙ kept_histories (λ u. not (ghosts.eq u v)) (vec_items c.args.self.now.entries)
+    ∙ ap (λ same. filter (λ (h : History). not (same h.value)) (kept c.args.self.now)) (fun_ext (λ u. value_eq u v))

@@ -1,12 +1,12 @@
-use Rattle.std.proofs.Common.{vec_items, ap, ◌∙◌, arith}
+use Rattle.std.proofs.Common.{vec_items, ap, ◌∙◌, rules}
+use Rattle.std.proofs.lemmas.Fn.{filter_same}
 use Rattle.model.specs.Model.{is_value}
 use Rattle.store.specs.Meaning.{meaning}
-use Rattle.histories.specs.Kept.{histories}
+use Rattle.histories.specs.Kept.{histories, entries_of}
 use Rattle.histories.proofs.Puts.{kept_histories}
 use Rattle.histories.proofs.histories.Histories.forget_dead.Goals as goal
 
-pub invariant_of-self : goal.invariant_of-self
-invariant_of-self c = record { within = omega (arith, c.retain.ensures.count); reserved = omega (arith, c.retain.ensures.capacity) }
-
 pub returns : goal.returns
-returns c = ap histories c.retain.ensures.items ∙ kept_histories (is_value (meaning c.args.store.now)) (vec_items c.args.self.now.entries)
+returns c =
+    let lives = is_value (meaning c.args.store.now) in
+    ap histories (filter_same _ (entries_of lives) _ (λ x b f k. search rules) _ _ c.retain.ensures.filtered) ∙ kept_histories lives (vec_items c.args.self.now.entries)

@@ -1,23 +1,20 @@
-use Rattle.std.proofs.Common.{ℕ, ◌≤◌, List, length, sym, ap, ◌∙◌, arith}
-use Rattle.std.proofs.lemmas.List.{length-map}
+use Rattle.std.proofs.Common.{ℕ, List, ap, ◌∙◌}
 use Rattle.rules_next.specs.Histories.{History, history_of}
-use Rattle.histories.specs.Kept.{history, histories, place_of}
-use Rattle.histories.proofs.Places.{types_read, types_nowhere}
+use Rattle.histories.specs.Kept.{histories}
+use Rattle.histories.proofs.Places.{types_read, types_unread}
 use Rattle.histories.proofs.histories.Histories.history_of.Goals as goal
 
-pub returns-then-place-entries : goal.returns-then-place-entries
-returns-then-place-entries c =
+pub returns-in-Some : goal.returns-in-Some
+returns-in-Some c =
     let xs = c.as_slice-entries.result.now in
     let v = c.args.value in
     let with-types : List ℕ → History = λ ts. record { value = v; types = ts } in
-    ap with-types (types_read xs v c.place_of-place.result c.index-entries-place.result c.place_of-place.ensures c.if-place-entries.true)
+    ap with-types (types_read xs v c.in-Some.place c.index-entries-place.result c.in-Some.ensures.place)
     ∙ ap (λ ys. history_of (histories ys) v) c.as_slice-entries.ensures.value
 
-pub returns-else-place-entries : goal.returns-else-place-entries
-returns-else-place-entries c =
+pub returns-in-None : goal.returns-in-None
+returns-in-None c =
     let xs = c.as_slice-entries.result.now in
     let v = c.args.value in
     let with-types : List ℕ → History = λ ts. record { value = v; types = ts } in
-    let far : length (histories xs) ≤ place_of (histories xs) v = omega (arith, length-map xs history, c.place_of-place.ensures) in
-    ap with-types (c.empty-types.ensures ∙ sym (types_nowhere v (histories xs) far))
-    ∙ ap (λ ys. history_of (histories ys) v) c.as_slice-entries.ensures.value
+    ap with-types (c.empty-types.ensures ∙ types_unread xs v c.in-None.ensures.place) ∙ ap (λ ys. history_of (histories ys) v) c.as_slice-entries.ensures.value

@@ -1,31 +1,15 @@
-use Rattle.std.proofs.Common.{length, vec_items, ap, ◌∙◌, arith}
-use Rattle.std.proofs.lemmas.List.{length_push}
-use Rattle.histories.specs.Kept.{histories, place_of}
-use Rattle.histories.proofs.Puts.{put_at, put_end, size_end}
+use Rattle.std.proofs.Common.{vec_items, ap, ◌∙◌}
+use Rattle.histories.specs.Kept.{histories, place_in}
+use Rattle.histories.proofs.Puts.{put_at, put_end}
 use Rattle.histories.proofs.histories.Histories.put_types.Goals as goal
 
-pub push_reserved-requires : goal.push_reserved-requires
-push_reserved-requires c =
-    let xs = vec_items c.args.self.now.entries in
-    let is = c.place_of-place.ensures ∙ ap (λ ys. place_of (histories ys) c.args.value) c.as_slice.ensures.value in
-    let size = size_end xs c.args.value c.place_of-place.result is (omega arith) in
-    omega (arith, size, c.requires, c.args.self.now.reserved)
+pub returns-in-Some : goal.returns-in-Some
+returns-in-Some c =
+    put_at (vec_items c.args.self.now.entries) c.args.value c.in-Some.place c.args.types
+    (c.in-Some.ensures.place ∙ ap (λ ys. place_in (histories ys) c.args.value) c.as_slice.ensures.value)
 
-pub invariant_of-self-else-place-len : goal.invariant_of-self-else-place-len
-invariant_of-self-else-place-len c =
-    let xs = vec_items c.args.self.now.entries in
-    let is = c.place_of-place.ensures ∙ ap (λ ys. place_of (histories ys) c.args.value) c.as_slice.ensures.value in
-    let size = size_end xs c.args.value c.place_of-place.result is (omega arith) in
-    record { within = omega (arith, size, c.requires, ap length c.push_reserved.ensures.items, length_push xs (record { value = c.args.value; types = c.args.types })); reserved = omega (arith, c.push_reserved.ensures.capacity, c.args.self.now.reserved) }
-
-pub returns-then-place-len : goal.returns-then-place-len
-returns-then-place-len c =
-    let xs = vec_items c.args.self.now.entries in
-    let is = c.place_of-place.ensures ∙ ap (λ ys. place_of (histories ys) c.args.value) c.as_slice.ensures.value in
-    put_at xs c.args.value c.place_of-place.result is c.args.types (omega arith)
-
-pub returns-else-place-len : goal.returns-else-place-len
-returns-else-place-len c =
-    let xs = vec_items c.args.self.now.entries in
-    let is = c.place_of-place.ensures ∙ ap (λ ys. place_of (histories ys) c.args.value) c.as_slice.ensures.value in
-    ap histories c.push_reserved.ensures.items ∙ put_end xs c.args.value c.place_of-place.result is c.args.types (omega arith)
+pub returns-in-None : goal.returns-in-None
+returns-in-None c =
+    ap histories c.push_reserved.ensures.items
+    ∙ put_end (vec_items c.args.self.now.entries) c.args.value c.args.types
+    (c.in-None.ensures.place ∙ ap (λ ys. place_in (histories ys) c.args.value) c.as_slice.ensures.value)

@@ -4,7 +4,7 @@ use Rattle.histories.specs.Kept.{histories}
 use Rattle.histories.proofs.Limits.{types_few}
 use Rattle.histories.proofs.histories.Histories.types_had.Goals as goal
 
-pub returns : goal.returns
-returns c =
+pub returns-clause-count : goal.returns-clause-count
+returns-clause-count c =
     let had = c.types_had.ensures ∙ ap (λ xs. types_had (histories xs) c.args.value) c.as_slice.ensures.value in
-    record { value = had; count = omega (arith, ap length had, types_few (vec_items c.args.self.now.entries) c.args.value) }
+    omega (arith, ap length had, types_few (vec_items c.args.self.now.entries) c.args.value)
