@@ -8,6 +8,6 @@ use Rattle.work.proofs.work.Work.meet_event.Goals as goal
 pub returns-in-Some : goal.returns-in-Some
 returns-in-Some g c =
     let M = g.C.DialectConversion.meaning in
-    let e = at (model c.args.store.now) c.args.conversion.now in
-    subst (λ ns. Met {M = M} (λ room l. meet_nodes M e room c.args.hand l ns) 1 c.args.self.now c.args.entries.now c.args.blocks.now c.args.queued.now c.meet_node.new.self c.meet_node.new.entries c.meet_node.new.blocks c.meet_node.new.queued c.meet_node.result)
+    let e = at (model c.args.setting.now.store.now) c.args.setting.now.conversion.now in
+    subst (λ ns. Met {M = M} (λ room l. meet_nodes M e room c.args.setting.now.hand l ns) 1 c.args.self.now c.args.entries.now c.args.blocks.now c.args.queued.now c.meet_node.new.self c.meet_node.new.entries c.meet_node.new.blocks c.meet_node.new.queued c.meet_node.result)
     c.in-Some.ensures c.meet_node.ensures

@@ -10,5 +10,5 @@ use Rattle.work.proofs.work.Work.meet_inserted.Given as goal
 abbrev pub invariant-loop-event : goal.invariant-loop-event
 invariant-loop-event g l =
     let M = g.C.DialectConversion.meaning in
-    let e = at (model l.store) l.conversion in
-    Turning {M = M} (λ room s. meet_nodes M e room l.hand s (inserted l.events)) e l.hand l.initial.self l.initial.entries l.initial.blocks l.initial.queued l.self l.entries l.blocks l.queued l.event-index (flat_map (inserted_by l.events) (drop l.event-index l.events))
+    let e = at (model l.setting.store.now) l.setting.conversion.now in
+    Turning {M = M} (λ room s. meet_nodes M e room l.setting.hand s (inserted l.events)) e l.setting.hand l.initial.self l.initial.entries l.initial.blocks l.initial.queued l.self l.entries l.blocks l.queued l.event-index (flat_map (inserted_by l.events) (drop l.event-index l.events))

@@ -8,9 +8,9 @@ use Rattle.work.proofs.work.Work.meet_node.Goals as goal
 pub returns-in-Operation : goal.returns-in-Operation
 returns-in-Operation g c =
     let M = g.C.DialectConversion.meaning in
-    let e = at (model c.args.store.now) c.args.conversion.now in
+    let e = at (model c.args.setting.now.store.now) c.args.setting.now.conversion.now in
     let ys = c.args.blocks.now in
-    met_single M e c.args.hand _ _ c.in-Operation.is 1 c.args.self.now c.meet_op.new.self c.args.entries.now c.meet_op.new.entries ys ys c.args.queued.now c.meet_op.new.queued c.meet_op.result
+    met_single M e c.args.setting.now.hand _ _ c.in-Operation.is 1 c.args.self.now c.meet_op.new.self c.args.entries.now c.meet_op.new.entries ys ys c.args.queued.now c.meet_op.new.queued c.meet_op.result
     (record {
       fits = record { worklist = c.meet_op.ensures.within; pending = subst (λ q. Within q ys) (sym c.meet_op.ensures.pending) c.requires.fits.pending };
       entries = c.meet_op.ensures.size;
