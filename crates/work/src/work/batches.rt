@@ -4,16 +4,15 @@ ghost use Rattle.store.specs.Meaning.{meaning as model};
 ghost use Rattle.histories.specs.Many.{kept};
 ghost use Rattle.rules_next.specs.declared.interface.Fault.TheVariants.{HistoryFull};
 ghost use Rattle.states.specs.Due.{at};
-ghost use Rattle.work.specs.Work.{Fits};
-ghost use Rattle.work.specs.Batches.{record_all, HandledBy};
+ghost use Rattle.work.specs.Lent.{Handles};
+ghost use Rattle.work.specs.Batches.{record_all};
 
-use super::Work;
 use super::handling::mark_all_erased;
+use super::lent::Lent;
 use super::meeting::Setting;
 use calls::events::RecorderEvent;
 use conversion::DialectConversion;
 use histories::Histories;
-use model::ids::{BlockId, OpId};
 use rules_next::interface::Fault;
 
 /// What `events` say of types goes into the histories, in their order, until one would pass a limit; that one changes nothing.
@@ -33,21 +32,17 @@ fn record_all(histories: &mut Histories, events: &[RecorderEvent]) -> Result<(),
 /// Handles `events`: first every erased operation is marked, then histories are kept, then what was inserted is met; and where all went
 /// well, the histories of dead values go.
 pub fn handle_events<C: DialectConversion>(
-    work: &mut Work,
+    lent: &mut Lent<'_>,
     histories: &mut Histories,
-    entries: &mut [OpId],
-    blocks: &mut [BlockId],
-    queued: &mut u64,
     setting: &Setting<'_, C>,
     events: &[RecorderEvent],
 ) -> Result<(), Fault>
-    requires fits { Fits work.old entries.old blocks.old }
-    requires room { queued.old + length events.now < 2 ^ 64 }
-    ensures { HandledBy C.DialectConversion.meaning (at (model setting.now.store.now) setting.now.conversion.now) setting.now.hand events.now work.old entries.old blocks.old (kept histories.old) queued.old work.new entries.new blocks.new (kept histories.new) queued.new result }
+    requires room { lent.old.queued.now + length events.now < 2 ^ 64 }
+    ensures { Handles C.DialectConversion.meaning (at (model setting.now.store.now) setting.now.conversion.now) setting.now.hand events.now lent.old (kept histories.old) lent.new (kept histories.new) result }
 {
-    mark_all_erased(&mut work.states, setting.store, events);
+    mark_all_erased(&mut lent.work.states, setting.store, events);
     record_all(histories, events)?;
-    work.meet_inserted(entries, blocks, queued, setting, events)?;
+    lent.meet_inserted(setting, events)?;
     histories.forget_dead(setting.store);
     Ok(())
 }

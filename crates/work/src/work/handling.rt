@@ -6,9 +6,9 @@ ghost use Rattle.rules_next.specs.Setting.{block_erased, inserted_by, inserted};
 ghost use Rattle.rules_next.specs.Driver.{mark_erased, mark_all_erased, meet_nodes};
 ghost use Rattle.states.specs.States.{states_in};
 ghost use Rattle.states.specs.Due.{at};
-ghost use Rattle.work.specs.Work.{Fits, Met};
+ghost use Rattle.work.specs.Lent.{MetBy};
 
-use super::Work;
+use super::lent::Lent;
 use super::meeting::Setting;
 use calls::events::RecorderEvent;
 use conversion::DialectConversion;
@@ -55,23 +55,19 @@ fn inserted_node(events: &[RecorderEvent], event: RecorderEvent) -> Option<IRNod
     }
 }
 
-impl Work {
+impl Lent<'_> {
     /// What `event`, one of `events`, says was inserted is met.
     fn meet_event<C: DialectConversion>(
         &mut self,
-        entries: &mut [OpId],
-        blocks: &mut [BlockId],
-        queued: &mut u64,
         setting: &Setting<'_, C>,
         events: &[RecorderEvent],
         event: RecorderEvent,
     ) -> Result<(), Fault>
-        requires fits { Fits self.old entries.old blocks.old }
-        requires room { queued.old + 1 < 2 ^ 64 }
-        ensures { Met (λ room l. meet_nodes C.DialectConversion.meaning (at (model setting.now.store.now) setting.now.conversion.now) room setting.now.hand l (inserted_by events.now event)) 1 self.old entries.old blocks.old queued.old self.new entries.new blocks.new queued.new result }
+        requires room { self.old.queued.now + 1 < 2 ^ 64 }
+        ensures { MetBy (λ room l. meet_nodes C.DialectConversion.meaning (at (model setting.now.store.now) setting.now.conversion.now) room setting.now.hand l (inserted_by events.now event)) 1 self.old self.new result }
     {
         match inserted_node(events, event) {
-            Some(node) => self.meet_node(entries, blocks, queued, setting, node),
+            Some(node) => self.meet_node(setting, node),
             None => Ok(()),
         }
     }
@@ -79,18 +75,14 @@ impl Work {
     /// What `events` say was inserted is met, in their order, until there is no room for one.
     pub fn meet_inserted<C: DialectConversion>(
         &mut self,
-        entries: &mut [OpId],
-        blocks: &mut [BlockId],
-        queued: &mut u64,
         setting: &Setting<'_, C>,
         events: &[RecorderEvent],
     ) -> Result<(), Fault>
-        requires fits { Fits self.old entries.old blocks.old }
-        requires room { queued.old + length events.now < 2 ^ 64 }
-        ensures { Met (λ room l. meet_nodes C.DialectConversion.meaning (at (model setting.now.store.now) setting.now.conversion.now) room setting.now.hand l (inserted events.now)) (length events.now) self.old entries.old blocks.old queued.old self.new entries.new blocks.new queued.new result }
+        requires room { self.old.queued.now + length events.now < 2 ^ 64 }
+        ensures { MetBy (λ room l. meet_nodes C.DialectConversion.meaning (at (model setting.now.store.now) setting.now.conversion.now) room setting.now.hand l (inserted events.now)) (length events.now) self.old self.new result }
     {
         for event in events {
-            self.meet_event(entries, blocks, queued, setting, events, *event)?;
+            self.meet_event(setting, events, *event)?;
         }
         Ok(())
     }

@@ -11,9 +11,11 @@ ghost use Rattle.rules_next.specs.Setting.{real};
 ghost use Rattle.rules_next.specs.Driver.{marks_of, meet_op, meet_nodes};
 ghost use Rattle.states.specs.States.{states_in};
 ghost use Rattle.states.specs.Due.{at};
-ghost use Rattle.work.specs.Work.{waiting, pending_in, memory_of, room_of, load_of, Fits, Leaves, Met};
+ghost use Rattle.work.specs.Lent.{MetBy};
+ghost use Rattle.work.specs.Work.{waiting, pending_in, memory_of, room_of, load_of, Leaves};
 
 use super::Work;
+use super::lent::Lent;
 use conversion::DialectConversion;
 use model::ids::{BlockId, IRNode, OpId};
 use rules_next::interface::{Fault, OpEvent, OpState};
@@ -97,23 +99,21 @@ impl Work {
             .push_back(blocks, block)
             .map_err(|_| Fault::Full)
     }
+}
 
+impl Lent<'_> {
     /// `node` is met. What lies in a region is met by itself.
     pub fn meet_node<C: DialectConversion>(
         &mut self,
-        entries: &mut [OpId],
-        blocks: &mut [BlockId],
-        queued: &mut u64,
         setting: &Setting<'_, C>,
         node: IRNode,
     ) -> Result<(), Fault>
-        requires fits { Fits self.old entries.old blocks.old }
-        requires room { queued.old + 1 < 2 ^ 64 }
-        ensures { Met (λ room l. meet_nodes C.DialectConversion.meaning (at (model setting.now.store.now) setting.now.conversion.now) room setting.now.hand l (node ∷ [])) 1 self.old entries.old blocks.old queued.old self.new entries.new blocks.new queued.new result }
+        requires room { self.old.queued.now + 1 < 2 ^ 64 }
+        ensures { MetBy (λ room l. meet_nodes C.DialectConversion.meaning (at (model setting.now.store.now) setting.now.conversion.now) room setting.now.hand l (node ∷ [])) 1 self.old self.new result }
     {
         match node {
-            IRNode::Operation(op) => self.meet_op(entries, queued, setting, op),
-            IRNode::BasicBlock(block) => self.meet_block(blocks, block),
+            IRNode::Operation(op) => self.work.meet_op(self.entries, self.queued, setting, op),
+            IRNode::BasicBlock(block) => self.work.meet_block(self.blocks, block),
             IRNode::Region(_) => Ok(()),
         }
     }
@@ -121,18 +121,14 @@ impl Work {
     /// `nodes` are met, in their order, until there is no room for one.
     pub fn meet_nodes<C: DialectConversion>(
         &mut self,
-        entries: &mut [OpId],
-        blocks: &mut [BlockId],
-        queued: &mut u64,
         setting: &Setting<'_, C>,
         nodes: &[IRNode],
     ) -> Result<(), Fault>
-        requires fits { Fits self.old entries.old blocks.old }
-        requires room { queued.old + length nodes.now < 2 ^ 64 }
-        ensures { Met (λ room l. meet_nodes C.DialectConversion.meaning (at (model setting.now.store.now) setting.now.conversion.now) room setting.now.hand l nodes.now) (length nodes.now) self.old entries.old blocks.old queued.old self.new entries.new blocks.new queued.new result }
+        requires room { self.old.queued.now + length nodes.now < 2 ^ 64 }
+        ensures { MetBy (λ room l. meet_nodes C.DialectConversion.meaning (at (model setting.now.store.now) setting.now.conversion.now) room setting.now.hand l nodes.now) (length nodes.now) self.old self.new result }
     {
         for node in nodes {
-            self.meet_node(entries, blocks, queued, setting, *node)?;
+            self.meet_node(setting, *node)?;
         }
         Ok(())
     }

@@ -13,5 +13,5 @@ returns-clause-pending c =
     let zs = c.push_back.new.memory in
     ap (λ a. pendings a (contents q zs)) c.first_argument-self.ensures
     ∙ pushed k.pending.count k.next_argument (contents k.pending ys) (contents q zs) c.args.block (is_ok c.push_back.result) (length_contents k.pending ys c.requires)
-        (held k.pending q ys zs c.args.block c.push_back.result c.push_back.ensures.items c.push_back.ensures.refused)
+    (held k.pending q ys zs c.args.block c.push_back.result c.push_back.ensures.items c.push_back.ensures.refused)
     ∙ ap (λ b. cond b (pending_in k ys ++ waiting c.args.block ∷ []) (pending_in k ys)) (sym c.map_err.ensures.variant)
