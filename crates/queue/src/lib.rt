@@ -4,4 +4,4 @@
 
 mod queue;
 
-pub use queue::Queue;
+pub use queue::{Full, Queue};

@@ -89,7 +89,7 @@ pub enum Answer {
 }
 
 /// What is counted since the beginning.
-#[derive(Clone, Copy)]
+#[derive(Clone, Copy, Debug, PartialEq, Eq, Default)]
 pub struct Counts {
     /// Different operations that were ever queued.
     pub queued: u64,

@@ -1,5 +1,5 @@
 -- Marks that one after another of a line becomes queued.
-use Rattle.std.proofs.Common.{◌≡◌, ℕ, ◌+◌, ◌-◌, ◌<◌, Bool, true, false, cond, not, ◌&&◌, ◌||◌, List, [], ◌∷◌, ◌++◌, length, get_or, take, drop, refl, ap, ◌∙◌, arith}
+use Rattle.std.proofs.Common.{◌≡◌, ℕ, ◌+◌, ◌<◌, Bool, true, false, cond, not, ◌&&◌, ◌||◌, List, [], ◌∷◌, ◌++◌, length, get_or, take, drop, refl, ap, ◌∙◌, arith}
 use Rattle.std.proofs.lemmas.List.{take_more, drop_more}
 use Rattle.model.specs.declared.ids.OpId.{OpId}
 use Rattle.law.specs.Machine.{Mark, queued, is_unmarked, fresh}
@@ -55,11 +55,3 @@ fresh_more st os i n m h e d =
 pub fresh_is : {C : Type 0} (M : Meaning C) (st : OpId → Mark) (os : List OpId) → fresh (real M) st os ≡ fresh_ops st os
 fresh_is M st [] = refl
 fresh_is M st (o ∷ os) = ap (λ n. cond (is_unmarked (st o)) 1 0 + n) (fresh_is M (marked st o) os)
-
--- the same as the code reads it: the part before the place i is a part from 0 on
-pub fresh_turn : (st : OpId → Mark) (os : List OpId) (i n m : ℕ) (r : Bool) → i < length os → n + fresh_ops (marked_all st (take i os)) (drop i os) ≡ fresh_ops st os
-    → r ≡ (not (among (take (i - 0) os) (get_or os i zero_op)) && is_unmarked (st (get_or os i zero_op))) → m ≡ n + cond r 1 0
-    → m + fresh_ops (marked_all st (take (i + 1) os)) (drop (i + 1) os) ≡ fresh_ops st os
-fresh_turn st os i n m r h e t d =
-    let zero : i - 0 ≡ i = omega arith in
-    fresh_more st os i n m h e (d ∙ ap (λ b. n + cond b 1 0) (t ∙ ap (λ j. not (among (take j os) (get_or os i zero_op)) && is_unmarked (st (get_or os i zero_op))) zero))

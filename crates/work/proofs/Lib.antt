@@ -4,3 +4,4 @@ pub mod Handles
 pub mod Fresh
 pub mod Laying
 pub mod Envs
+pub mod Same

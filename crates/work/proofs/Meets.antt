@@ -1,9 +1,11 @@
 -- What comes of an operation or a block that is met.
-use Rattle.std.proofs.Common.{◌≡◌, ℕ, suc, ◌+◌, Bool, true, false, cond, eqb, ltb, List, [], ◌∷◌, ◌++◌, length, Ok, Err, Option, Result, sym, refl, ap, ◌∙◌, arith}
+use Rattle.std.proofs.Common.{◌≡◌, ℕ, suc, ◌+◌, Bool, true, false, cond, eqb, ltb, List, [], ◌∷◌, ◌++◌, length, is_ok, OnOk, OnErr, Ok, Err, Option, Result, sym, refl, ap, ◌∙◌, arith}
 use Rattle.std.proofs.lemmas.List.{map-append, length-map}
 use Rattle.std.proofs.lemmas.Bool.{eq-eqb, ne_eqb, cond-true}
 use Rattle.model.specs.declared.ids.OpId.{OpId}
 use Rattle.model.specs.declared.ids.BlockId.{BlockId}
+use Rattle.queue.specs.declared.queue.Queue.{Queue}
+use Rattle.queue.specs.Contents.{contents}
 use Rattle.law.specs.Machine.{Moment, newly}
 use Rattle.rules_next.specs.declared.interface.Fault.{Fault}
 use Rattle.rules_next.specs.declared.interface.Fault.TheVariants as fault
@@ -90,3 +92,8 @@ begun_none k n bs e d = cond-true (eqb k 0) 0 n (eq-eqb k 0 (sym e ∙ ap length
 pub pushed : (k n : ℕ) (bs cs : List BlockId) (b : BlockId) (r : Bool) → length bs ≡ k → cs ≡ cond r (bs ++ b ∷ []) bs → pendings (begun k n) cs ≡ cond r (pendings n bs ++ waiting b ∷ []) (pendings n bs)
 pushed k n bs cs b true e d = ap (pendings (begun k n)) d ∙ pendings_more (begun k n) bs b (begun_none k n bs e) ∙ ap (λ z. z ++ waiting b ∷ []) (begun_same k n bs e)
 pushed k n bs cs b false e d = ap (pendings (begun k n)) d ∙ begun_same k n bs e
+
+-- what a push leaves in a queue
+pub held : {E : Type 0} (q q' : Queue) (ys ys' : List BlockId) (b : BlockId) (r : Result (Unit {0}) E) → OnOk r (contents q' ys' ≡ contents q ys ++ b ∷ []) → OnErr r ((q' ≡ q) × (ys' ≡ ys)) → contents q' ys' ≡ cond (is_ok r) (contents q ys ++ b ∷ []) (contents q ys)
+held q q' ys ys' b (Ok x) i e = i
+held q q' ys ys' b (Err f) i e = λ j. contents (e.0 j) (e.1 j)

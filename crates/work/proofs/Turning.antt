@@ -10,6 +10,8 @@ use Rattle.rules_next.specs.Histories.{History}
 use Rattle.rules_next.specs.Setting.{Env, real}
 use Rattle.rules_next.specs.Driver.{Memory, Room, Load, Handled, fine, stops, onward, and_then, meet_node, meet_nodes}
 use Rattle.work.specs.declared.work.Work.{Work}
+use Rattle.work.specs.declared.work.lent.Lent.{Lent}
+use Rattle.work.specs.Lent.{Same}
 use Rattle.work.specs.Work.{memory_of, room_of, Fits, load_of, Met}
 use Rattle.work.proofs.Meets.{leaves_by}
 
@@ -124,3 +126,7 @@ met_single M e hand n o d size k k' xs xs' ys ys' q q' r m = record {
   leaves = λ hs. leaves_by (λ ms. meet_nodes M e (room_of xs ys) hand (load_of M (memory_of k xs ys hs) q ms) (n ∷ [])) (λ ms. meet_node M e (room_of xs ys) hand (load_of M (memory_of k xs ys hs) q ms) o) (memory_of k' xs' ys' hs) q' r
       (λ ms. single M e (room_of xs ys) hand (load_of M (memory_of k xs ys hs) q ms) n ∙ ap (meet_node M e (room_of xs ys) hand (load_of M (memory_of k xs ys hs) q ms)) d) (m.leaves hs);
 }
+
+-- a loan that stays, and stays
+pub joined : {s t u : Lent} → Same s t → Same t u → Same s u
+joined a b = record { work = b.work ∙ a.work; entries = b.entries ∙ a.entries; blocks = b.blocks ∙ a.blocks; queued = b.queued ∙ a.queued }

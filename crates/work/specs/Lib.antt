@@ -1,3 +1,4 @@
 pub mod Work
 pub mod Waiting
 pub mod Batches
+pub mod Lent

@@ -4,6 +4,7 @@ use states::States;
 
 pub mod batches;
 pub mod handling;
+pub mod lent;
 pub mod meeting;
 pub mod waiting;
 

@@ -12,17 +12,6 @@ use std::alloc::{AllocError, Global};
 use walkers::Nodes;
 use work::Work;
 
-/// Nothing is counted yet.
-pub const NO_COUNTS: Counts = Counts {
-    queued: 0,
-    taken: 0,
-    rewritten: 0,
-    aside: 0,
-    waits: 0,
-    stale: 0,
-    questions: 0,
-};
-
 impl Driver {
     /// A driver that has not begun. All memory is taken here.
     pub fn new(heap: Global) -> Result<Driver, AllocError>
@@ -43,7 +32,7 @@ impl Driver {
                 next_argument: 0,
             },
             histories,
-            counts: NO_COUNTS,
+            counts: Counts::default(),
             steps: 0,
             phase: Phase::NeverBegun,
             changed: false,

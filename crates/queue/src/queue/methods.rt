@@ -1,17 +1,18 @@
 //! The calls. Each is lent the same memory, and needs that the queue lies within it.
-ghost use Rattle.std.specs.Prelude.{◌≡◌, ◌+◌, ◌-◌, false, [], ◌∷◌, ◌++◌, length, is_some, if◌then◌else◌, ◌==◌, nat_lt};
+// Stays: a handle over a queue and its memory would carry that, but each of its calls would have to promise that both references stay, and reading would take `&mut [T]`.
+ghost use Rattle.std.specs.Prelude.{◌≡◌, ◌+◌, ◌-◌, [], ◌∷◌, ◌++◌, length, is_some, is_ok, OnOk, OnErr, ◌==◌, nat_lt};
 ghost use Rattle.std.specs.Option.{option_to_list};
 ghost use Rattle.std.specs.List.{slice_get};
 ghost use Rattle.queue.specs.Contents.{contents, Within};
 
-use super::Queue;
+use super::{Full, Queue};
 
 impl Queue {
     pub fn new() -> Queue
         ensures front { result.front ≡ 0 }
         ensures count { result.count ≡ 0 }
     {
-        Queue { front: 0, count: 0 }
+        Queue::default()
     }
 
     /// Nothing is left in it, whatever its memory.
@@ -19,8 +20,7 @@ impl Queue {
         ensures front { self.new.front ≡ 0 }
         ensures count { self.new.count ≡ 0 }
     {
-        self.front = 0;
-        self.count = 0;
+        *self = Queue::new();
     }
 
     pub fn len(&self) -> usize
@@ -48,18 +48,18 @@ impl Queue {
         }
     }
 
-    /// False where the memory is full, and then nothing has changed.
-    pub fn push_back<T: Copy>(&mut self, memory: &mut [T], x: T) -> bool
+    /// Refused where the memory is full, and then nothing has changed.
+    pub fn push_back<T: Copy>(&mut self, memory: &mut [T], x: T) -> Result<(), Full>
         requires { Within self.old memory.old }
         ensures within { Within self.new memory.new }
         ensures size { length memory.new ≡ length memory.old }
-        ensures test { result ≡ nat_lt self.old.count (length memory.old) }
-        ensures count { self.new.count ≡ (if result then self.old.count + 1 else self.old.count) }
-        ensures items { contents self.new memory.new ≡ (if result then contents self.old memory.old ++ x ∷ [] else contents self.old memory.old) }
-        ensures refused { result ≡ false → (self.new ≡ self.old) × (memory.new ≡ memory.old) }
+        ensures test { is_ok result ≡ nat_lt self.old.count (length memory.old) }
+        ensures count { OnOk result (self.new.count ≡ self.old.count + 1) }
+        ensures items { OnOk result (contents self.new memory.new ≡ contents self.old memory.old ++ x ∷ []) }
+        ensures refused { OnErr result ((self.new ≡ self.old) × (memory.new ≡ memory.old)) }
     {
         if self.count >= memory.len() {
-            return false;
+            return Err(Full);
         }
         let room = memory.len() - self.front;
         let back = if self.count < room {
@@ -69,21 +69,21 @@ impl Queue {
         };
         memory[back] = x;
         self.count += 1;
-        true
+        Ok(())
     }
 
-    /// False where the memory is full, and then nothing has changed.
-    pub fn push_front<T: Copy>(&mut self, memory: &mut [T], x: T) -> bool
+    /// Refused where the memory is full, and then nothing has changed.
+    pub fn push_front<T: Copy>(&mut self, memory: &mut [T], x: T) -> Result<(), Full>
         requires { Within self.old memory.old }
         ensures within { Within self.new memory.new }
         ensures size { length memory.new ≡ length memory.old }
-        ensures test { result ≡ nat_lt self.old.count (length memory.old) }
-        ensures count { self.new.count ≡ (if result then self.old.count + 1 else self.old.count) }
-        ensures items { contents self.new memory.new ≡ (if result then x ∷ contents self.old memory.old else contents self.old memory.old) }
-        ensures refused { result ≡ false → (self.new ≡ self.old) × (memory.new ≡ memory.old) }
+        ensures test { is_ok result ≡ nat_lt self.old.count (length memory.old) }
+        ensures count { OnOk result (self.new.count ≡ self.old.count + 1) }
+        ensures items { OnOk result (contents self.new memory.new ≡ x ∷ contents self.old memory.old) }
+        ensures refused { OnErr result ((self.new ≡ self.old) × (memory.new ≡ memory.old)) }
     {
         if self.count >= memory.len() {
-            return false;
+            return Err(Full);
         }
         let front = if self.front == 0 {
             memory.len() - 1
@@ -93,7 +93,7 @@ impl Queue {
         memory[front] = x;
         self.front = front;
         self.count += 1;
-        true
+        Ok(())
     }
 
     /// Takes the first element, if there is one.
@@ -104,10 +104,7 @@ impl Queue {
         ensures count { self.new.count ≡ self.old.count - 1 }
         ensures items { contents self.old memory.now ≡ option_to_list result ++ contents self.new memory.now }
     {
-        if self.count == 0 {
-            return None;
-        }
-        let x = memory[self.front];
+        let x = self.front(memory)?;
         self.front = if self.front + 1 == memory.len() {
             0
         } else {

@@ -1,57 +1,48 @@
 //! A whole batch of records.
-ghost use Rattle.std.specs.Prelude.{◌≡◌, ◌+◌, ◌^◌, ◌<◌, cond, length};
+ghost use Rattle.std.specs.Prelude.{◌≡◌, ◌+◌, ◌^◌, ◌<◌, length, is_ok, IsOkUnless};
 ghost use Rattle.store.specs.Meaning.{meaning as model};
 ghost use Rattle.histories.specs.Many.{kept};
-ghost use Rattle.rules_next.specs.Driver.{handle};
+ghost use Rattle.rules_next.specs.declared.interface.Fault.TheVariants.{HistoryFull};
 ghost use Rattle.states.specs.Due.{at};
-ghost use Rattle.work.specs.Work.{Fits};
-ghost use Rattle.work.specs.Batches.{record_all, HandledBy};
+ghost use Rattle.work.specs.Lent.{Handles};
+ghost use Rattle.work.specs.Batches.{record_all};
 
-use super::Work;
 use super::handling::mark_all_erased;
+use super::lent::Lent;
+use super::meeting::Setting;
 use calls::events::RecorderEvent;
 use conversion::DialectConversion;
 use histories::Histories;
-use model::ids::{BlockId, OpId};
 use rules_next::interface::Fault;
-use store::store::Store;
 
-/// What `events` say of types goes into the histories, in their order, until one would pass a limit; that one changes nothing. True where
-/// none would.
-fn record_all(histories: &mut Histories, events: &[RecorderEvent]) -> bool
-    ensures all { result ≡ (record_all (kept histories.old) events.now).all }
+/// What `events` say of types goes into the histories, in their order, until one would pass a limit; that one changes nothing.
+fn record_all(histories: &mut Histories, events: &[RecorderEvent]) -> Result<(), Fault>
+    ensures all { is_ok result ≡ (record_all (kept histories.old) events.now).all }
+    ensures fault { IsOkUnless result HistoryFull }
     ensures after { kept histories.new ≡ (record_all (kept histories.old) events.now).histories }
 {
     for event in events {
         if !histories.record(*event) {
-            return false;
+            return Err(Fault::HistoryFull);
         }
     }
-    true
+    Ok(())
 }
 
 /// Handles `events`: first every erased operation is marked, then histories are kept, then what was inserted is met; and where all went
 /// well, the histories of dead values go.
 pub fn handle_events<C: DialectConversion>(
-    work: &mut Work,
+    lent: &mut Lent<'_>,
     histories: &mut Histories,
-    entries: &mut [OpId],
-    blocks: &mut [BlockId],
-    queued: &mut u64,
-    store: &Store,
-    conversion: &C,
-    hand: Option<OpId>,
+    setting: &Setting<'_, C>,
     events: &[RecorderEvent],
 ) -> Result<(), Fault>
-    requires fits { Fits work.old entries.old blocks.old }
-    requires room { queued.old + length events.now < 2 ^ 64 }
-    ensures { HandledBy C.DialectConversion.meaning (at (model store.now) conversion.now) hand events.now work.old entries.old blocks.old (kept histories.old) queued.old work.new entries.new blocks.new (kept histories.new) queued.new result }
+    requires room { lent.old.queued.now + length events.now < 2 ^ 64 }
+    ensures { Handles C.DialectConversion.meaning (at (model setting.now.store.now) setting.now.conversion.now) setting.now.hand events.now lent.old (kept histories.old) lent.new (kept histories.new) result }
 {
-    mark_all_erased(&mut work.states, store, events);
-    if !record_all(histories, events) {
-        return Err(Fault::HistoryFull);
-    }
-    work.meet_inserted(entries, blocks, queued, store, conversion, hand, events)?;
-    histories.forget_dead(store);
+    mark_all_erased(&mut lent.work.states, setting.store, events);
+    record_all(histories, events)?;
+    lent.meet_inserted(setting, events)?;
+    histories.forget_dead(setting.store);
     Ok(())
 }

@@ -2,13 +2,14 @@
 ghost use Rattle.std.specs.Prelude.{◌≡◌, ◌+◌, ◌^◌, ◌<◌, length};
 ghost use Rattle.std.specs.Option.{option_to_list};
 ghost use Rattle.store.specs.Meaning.{meaning as model};
-ghost use Rattle.rules_next.specs.Setting.{erases_block, block_erased, inserted_by, inserted};
+ghost use Rattle.rules_next.specs.Setting.{block_erased, inserted_by, inserted};
 ghost use Rattle.rules_next.specs.Driver.{mark_erased, mark_all_erased, meet_nodes};
 ghost use Rattle.states.specs.States.{states_in};
 ghost use Rattle.states.specs.Due.{at};
-ghost use Rattle.work.specs.Work.{Fits, Met};
+ghost use Rattle.work.specs.Lent.{MetBy};
 
-use super::Work;
+use super::lent::Lent;
+use super::meeting::Setting;
 use calls::events::RecorderEvent;
 use conversion::DialectConversion;
 use model::ids::{BlockId, IRNode, OpId};
@@ -34,28 +35,11 @@ pub fn mark_all_erased(states: &mut States, store: &Store, events: &[RecorderEve
     }
 }
 
-/// Does `event` say that `block` was erased?
-fn erases_block(event: RecorderEvent, block: BlockId) -> bool
-    ensures { result ≡ erases_block block event }
-{
-    match event {
-        RecorderEvent::ErasedBlock(erased) => {
-            block.slot == erased.slot && block.generation == erased.generation
-        }
-        _ => false,
-    }
-}
-
 /// Does one of `events` say that `block` was erased?
 fn block_erased(events: &[RecorderEvent], block: BlockId) -> bool
     ensures { result ≡ block_erased events.now block }
 {
-    for event in events {
-        if erases_block(*event, block) {
-            return true;
-        }
-    }
-    false
+    events.contains(&RecorderEvent::ErasedBlock(block))
 }
 
 /// The operation or the block that `event` says was inserted; a block that `events` say was erased is left out.
@@ -64,36 +48,26 @@ fn inserted_node(events: &[RecorderEvent], event: RecorderEvent) -> Option<IRNod
 {
     match event {
         RecorderEvent::InsertedOperation(op) => Some(IRNode::Operation(op)),
-        RecorderEvent::InsertedBlock(block) => {
-            if block_erased(events, block) {
-                None
-            } else {
-                Some(IRNode::BasicBlock(block))
-            }
+        RecorderEvent::InsertedBlock(block) if !block_erased(events, block) => {
+            Some(IRNode::BasicBlock(block))
         }
         _ => None,
     }
 }
 
-impl Work {
+impl Lent<'_> {
     /// What `event`, one of `events`, says was inserted is met.
     fn meet_event<C: DialectConversion>(
         &mut self,
-        entries: &mut [OpId],
-        blocks: &mut [BlockId],
-        queued: &mut u64,
-        store: &Store,
-        conversion: &C,
-        hand: Option<OpId>,
+        setting: &Setting<'_, C>,
         events: &[RecorderEvent],
         event: RecorderEvent,
     ) -> Result<(), Fault>
-        requires fits { Fits self.old entries.old blocks.old }
-        requires room { queued.old + 1 < 2 ^ 64 }
-        ensures { Met (λ room l. meet_nodes C.DialectConversion.meaning (at (model store.now) conversion.now) room hand l (inserted_by events.now event)) 1 self.old entries.old blocks.old queued.old self.new entries.new blocks.new queued.new result }
+        requires room { self.old.queued.now + 1 < 2 ^ 64 }
+        ensures { MetBy (λ room l. meet_nodes C.DialectConversion.meaning (at (model setting.now.store.now) setting.now.conversion.now) room setting.now.hand l (inserted_by events.now event)) 1 self.old self.new result }
     {
         match inserted_node(events, event) {
-            Some(node) => { self.meet_node(entries, blocks, queued, store, conversion, hand, node) }
+            Some(node) => self.meet_node(setting, node),
             None => Ok(()),
         }
     }
@@ -101,22 +75,14 @@ impl Work {
     /// What `events` say was inserted is met, in their order, until there is no room for one.
     pub fn meet_inserted<C: DialectConversion>(
         &mut self,
-        entries: &mut [OpId],
-        blocks: &mut [BlockId],
-        queued: &mut u64,
-        store: &Store,
-        conversion: &C,
-        hand: Option<OpId>,
+        setting: &Setting<'_, C>,
         events: &[RecorderEvent],
     ) -> Result<(), Fault>
-        requires fits { Fits self.old entries.old blocks.old }
-        requires room { queued.old + length events.now < 2 ^ 64 }
-        ensures { Met (λ room l. meet_nodes C.DialectConversion.meaning (at (model store.now) conversion.now) room hand l (inserted events.now)) (length events.now) self.old entries.old blocks.old queued.old self.new entries.new blocks.new queued.new result }
+        requires room { self.old.queued.now + length events.now < 2 ^ 64 }
+        ensures { MetBy (λ room l. meet_nodes C.DialectConversion.meaning (at (model setting.now.store.now) setting.now.conversion.now) room setting.now.hand l (inserted events.now)) (length events.now) self.old self.new result }
     {
         for event in events {
-            self.meet_event(
-                entries, blocks, queued, store, conversion, hand, events, *event,
-            )?;
+            self.meet_event(setting, events, *event)?;
         }
         Ok(())
     }

@@ -1,48 +1,43 @@
 //! Operations and blocks that a walk meets, or that a record says were inserted.
-ghost use Rattle.std.specs.Prelude.{◌≡◌, ℕ, ◌+◌, ◌^◌, ◌<◌, ◌≤◌, List, [], ◌∷◌, ◌++◌, length, if◌then◌else◌, None, nat_eq, nat_lt};
+ghost use Rattle.std.specs.Prelude.{◌≡◌, ℕ, ◌+◌, ◌^◌, ◌<◌, ◌≤◌, List, [], ◌∷◌, ◌++◌, length, is_ok, if◌then◌else◌, nat_eq, nat_lt, IsOkUnless};
 ghost use Rattle.model.specs.declared.ids.OpId.{OpId as Op};
 ghost use Rattle.model.specs.declared.ids.BlockId.{BlockId as Block};
 ghost use Rattle.store.specs.Meaning.{meaning as model};
 ghost use Rattle.queue.specs.Contents.{Within};
 ghost use Rattle.law.specs.Machine.{newly};
+ghost use Rattle.rules_next.specs.declared.interface.Fault.TheVariants.{Full};
 ghost use Rattle.rules_next.specs.Histories.{History};
-ghost use Rattle.rules_next.specs.Setting.{real, same_op};
-ghost use Rattle.rules_next.specs.Driver.{marks_of, is_hand, meet_op, meet_nodes};
+ghost use Rattle.rules_next.specs.Setting.{real};
+ghost use Rattle.rules_next.specs.Driver.{marks_of, meet_op, meet_nodes};
 ghost use Rattle.states.specs.States.{states_in};
 ghost use Rattle.states.specs.Due.{at};
-ghost use Rattle.work.specs.Work.{waiting, pending_in, memory_of, room_of, load_of, Fits, Leaves, Met};
+ghost use Rattle.work.specs.Lent.{MetBy};
+ghost use Rattle.work.specs.Work.{waiting, pending_in, memory_of, room_of, load_of, Leaves};
 
 use super::Work;
+use super::lent::Lent;
 use conversion::DialectConversion;
 use model::ids::{BlockId, IRNode, OpId};
 use rules_next::interface::{Fault, OpEvent, OpState};
 use states::States;
 use store::store::Store;
 
-/// Are the two one operation?
-pub fn same_op(a: OpId, b: OpId) -> bool
-    ensures { result ≡ same_op a b }
-{
-    a.slot == b.slot && a.generation == b.generation
+/// What is read while operations and blocks are met.
+#[derive(Drop)]
+pub struct Setting<'a, C> {
+    pub store: &'a Store,
+    pub conversion: &'a C,
+    /// The operation that is being rewritten, if one is.
+    pub hand: Option<OpId>,
 }
 
-/// Is `op` the one in hand?
-fn is_hand(hand: Option<OpId>, op: OpId) -> bool
-    ensures { result ≡ is_hand hand op }
-{
-    match hand {
-        Some(held) => same_op(held, op),
-        None => false,
-    }
-}
-
-/// Is `op` to be rewritten, and has it no entry?
-fn is_new<C: DialectConversion>(states: &States, store: &Store, conversion: &C, op: OpId) -> bool
-    ensures { result ≡ newly (real C.DialectConversion.meaning) (at (model store.now) conversion.now) (marks_of (states_in states.now)) op }
-{
-    match states.state(store, op) {
-        OpState::Unmarked => conversion.can_convert_op(store, op),
-        _ => false,
+impl<C: DialectConversion> Setting<'_, C> {
+    /// Is `op` to be rewritten, and has it no entry?
+    fn is_new(&self, states: &States, op: OpId) -> bool
+        ensures { result ≡ newly (real C.DialectConversion.meaning) (at (model self.now.store.now) self.now.conversion.now) (marks_of (states_in states.now)) op }
+    {
+        matches!(states.state(self.store, op), OpState::Unmarked)
+            && self.conversion.can_convert_op(self.store, op)
     }
 }
 
@@ -53,9 +48,7 @@ impl Work {
         &mut self,
         entries: &mut [OpId],
         queued: &mut u64,
-        store: &Store,
-        conversion: &C,
-        hand: Option<OpId>,
+        setting: &Setting<'_, C>,
         op: OpId,
     ) -> Result<(), Fault>
         requires within { Within self.old.worklist entries.old }
@@ -64,16 +57,16 @@ impl Work {
         ensures pending { self.new.pending ≡ self.old.pending }
         ensures size { length entries.new ≡ length entries.old }
         ensures few { queued.new ≤ queued.old + 1 }
-        ensures meets { (ys : List Block) (hs : List History) → Leaves (λ ms. meet_op C.DialectConversion.meaning (at (model store.now) conversion.now) (room_of entries.old ys) hand (load_of C.DialectConversion.meaning (memory_of self.old entries.old ys hs) queued.old ms) op) (memory_of self.new entries.new ys hs) queued.new result }
+        ensures meets { (ys : List Block) (hs : List History) → Leaves (λ ms. meet_op C.DialectConversion.meaning (at (model setting.now.store.now) setting.now.conversion.now) (room_of entries.old ys) setting.now.hand (load_of C.DialectConversion.meaning (memory_of self.old entries.old ys hs) queued.old ms) op) (memory_of self.new entries.new ys hs) queued.new result }
     {
-        if !is_new(&self.states, store, conversion, op) {
+        if !setting.is_new(&self.states, op) {
             return Ok(());
         }
-        if !self.worklist.push_back(entries, op) {
-            return Err(Fault::Full);
-        }
-        self.states.note(store, op, OpEvent::Queued);
-        if !is_hand(hand, op) {
+        self.worklist
+            .push_back(entries, op)
+            .map_err(|_| Fault::Full)?;
+        self.states.note(setting.store, op, OpEvent::Queued);
+        if setting.hand != Some(op) {
             *queued += 1;
         }
         Ok(())
@@ -90,44 +83,37 @@ impl Work {
         }
     }
 
-    /// `block` is met: its arguments are to be asked about. False where there is no room for it.
-    fn meet_block(&mut self, blocks: &mut [BlockId], block: BlockId) -> bool
+    /// `block` is met: its arguments are to be asked about.
+    fn meet_block(&mut self, blocks: &mut [BlockId], block: BlockId) -> Result<(), Fault>
         requires { Within self.old.pending blocks.old }
         ensures within { Within self.new.pending blocks.new }
         ensures worklist { self.new.worklist ≡ self.old.worklist }
         ensures states { self.new.states ≡ self.old.states }
         ensures size { length blocks.new ≡ length blocks.old }
-        ensures test { result ≡ nat_lt (length (pending_in self.old blocks.old)) (length blocks.old) }
-        ensures pending { pending_in self.new blocks.new ≡ (if result then pending_in self.old blocks.old ++ waiting block ∷ [] else pending_in self.old blocks.old) }
+        ensures test { is_ok result ≡ nat_lt (length (pending_in self.old blocks.old)) (length blocks.old) }
+        ensures fault { IsOkUnless result Full }
+        ensures pending { pending_in self.new blocks.new ≡ (if is_ok result then pending_in self.old blocks.old ++ waiting block ∷ [] else pending_in self.old blocks.old) }
     {
         self.next_argument = self.first_argument();
-        self.pending.push_back(blocks, block)
+        self.pending
+            .push_back(blocks, block)
+            .map_err(|_| Fault::Full)
     }
+}
 
+impl Lent<'_> {
     /// `node` is met. What lies in a region is met by itself.
     pub fn meet_node<C: DialectConversion>(
         &mut self,
-        entries: &mut [OpId],
-        blocks: &mut [BlockId],
-        queued: &mut u64,
-        store: &Store,
-        conversion: &C,
-        hand: Option<OpId>,
+        setting: &Setting<'_, C>,
         node: IRNode,
     ) -> Result<(), Fault>
-        requires fits { Fits self.old entries.old blocks.old }
-        requires room { queued.old + 1 < 2 ^ 64 }
-        ensures { Met (λ room l. meet_nodes C.DialectConversion.meaning (at (model store.now) conversion.now) room hand l (node ∷ [])) 1 self.old entries.old blocks.old queued.old self.new entries.new blocks.new queued.new result }
+        requires room { self.old.queued.now + 1 < 2 ^ 64 }
+        ensures { MetBy (λ room l. meet_nodes C.DialectConversion.meaning (at (model setting.now.store.now) setting.now.conversion.now) room setting.now.hand l (node ∷ [])) 1 self.old self.new result }
     {
         match node {
-            IRNode::Operation(op) => { self.meet_op(entries, queued, store, conversion, hand, op) }
-            IRNode::BasicBlock(block) => {
-                if self.meet_block(blocks, block) {
-                    Ok(())
-                } else {
-                    Err(Fault::Full)
-                }
-            }
+            IRNode::Operation(op) => self.work.meet_op(self.entries, self.queued, setting, op),
+            IRNode::BasicBlock(block) => self.work.meet_block(self.blocks, block),
             IRNode::Region(_) => Ok(()),
         }
     }
@@ -135,19 +121,14 @@ impl Work {
     /// `nodes` are met, in their order, until there is no room for one.
     pub fn meet_nodes<C: DialectConversion>(
         &mut self,
-        entries: &mut [OpId],
-        blocks: &mut [BlockId],
-        queued: &mut u64,
-        store: &Store,
-        conversion: &C,
+        setting: &Setting<'_, C>,
         nodes: &[IRNode],
     ) -> Result<(), Fault>
-        requires fits { Fits self.old entries.old blocks.old }
-        requires room { queued.old + length nodes.now < 2 ^ 64 }
-        ensures { Met (λ room l. meet_nodes C.DialectConversion.meaning (at (model store.now) conversion.now) room None l nodes.now) (length nodes.now) self.old entries.old blocks.old queued.old self.new entries.new blocks.new queued.new result }
+        requires room { self.old.queued.now + length nodes.now < 2 ^ 64 }
+        ensures { MetBy (λ room l. meet_nodes C.DialectConversion.meaning (at (model setting.now.store.now) setting.now.conversion.now) room setting.now.hand l nodes.now) (length nodes.now) self.old self.new result }
     {
         for node in nodes {
-            self.meet_node(entries, blocks, queued, store, conversion, None, *node)?;
+            self.meet_node(setting, *node)?;
         }
         Ok(())
     }

@@ -1,11 +1,11 @@
-use Rattle.std.proofs.Common.{◌≡◌, ◌<◌, ◌≤◌, length, set, refl, ap, ◌∙◌, arith, length-set, rules}
+use Rattle.std.proofs.Common.{◌≡◌, ◌<◌, ◌≤◌, length, set, ap, ◌∙◌, arith}
 use Rattle.queue.specs.Contents.{turned}
 use Rattle.queue.proofs.Turns.{set_high, set_low, put, length_turned}
 use Rattle.queue.proofs.queue.Queue.push_back.Goals as goal
 use Rattle.queue.proofs.queue.Queue.push_back.Goals.{then-self-room, else-self-room}
 
-pub returns : goal.returns
-returns g c =
+pub returns-clause-items : goal.returns-clause-items
+returns-clause-items g c =
     let xs = c.args.memory.now in
     let f = c.args.self.now.front in
     let n = c.args.self.now.count in
@@ -18,4 +18,4 @@ returns g c =
       | else-self-room w ↦ ap (λ i. turned f (set xs i x)) w.back-is ∙ set_low f n xs x le (omega arith) lt
     ]
     in
-    record { within = simp length-set (omega arith, omega arith); size = search rules; test = search rules; count = refl; refused = search rules; items = put n xs _ (turned f xs) x (omega (arith, length_turned f xs le)) placed }
+    put n xs _ (turned f xs) x (omega (arith, length_turned f xs le)) placed

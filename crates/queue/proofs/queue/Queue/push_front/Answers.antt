@@ -1,11 +1,11 @@
-use Rattle.std.proofs.Common.{◌≡◌, ◌+◌, ◌<◌, ◌∷◌, length, take, sym, refl, ap, ◌∙◌, arith, length-set, rules}
+use Rattle.std.proofs.Common.{◌≡◌, ◌+◌, ◌<◌, ◌∷◌, length, take, sym, ap, ◌∙◌, arith}
 use Rattle.queue.specs.Contents.{turned}
 use Rattle.queue.proofs.Turns.{push, round}
 use Rattle.queue.proofs.queue.Queue.push_front.Goals as goal
 use Rattle.queue.proofs.queue.Queue.push_front.Goals.{then-self-eq0, else-self-eq0}
 
-pub returns : goal.returns
-returns g c =
+pub returns-clause-items : goal.returns-clause-items
+returns-clause-items g c =
     let xs = c.args.memory.now in
     let f = c.args.self.now.front in
     let b = c.if-self-eq0.front in
@@ -18,4 +18,4 @@ returns g c =
       | else-self-eq0 w ↦ (let same : b + 1 ≡ f = omega (arith, w.front-is) in ap (λ k. turned k xs) same)
     ]
     in
-    record { within = simp length-set (omega arith, omega arith); size = search rules; test = search rules; count = refl; refused = search rules; items = push b n xs c.args.x in-range lt ∙ ap (λ ys. c.args.x ∷ take n ys) came-round }
+    push b n xs c.args.x in-range lt ∙ ap (λ ys. c.args.x ∷ take n ys) came-round

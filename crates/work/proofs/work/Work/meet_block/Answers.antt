@@ -1,21 +1,17 @@
-use Rattle.std.proofs.Common.{ltb, length, sym, refl, ap, ◌∙◌}
+use Rattle.std.proofs.Common.{[], ◌∷◌, ◌++◌, cond, is_ok, sym, ap, ◌∙◌}
 use Rattle.queue.specs.Contents.{contents}
 use Rattle.queue.proofs.Lengths.{length_contents}
-use Rattle.work.specs.Work.{pendings}
-use Rattle.work.proofs.Meets.{length_pendings, pushed}
+use Rattle.work.specs.Work.{waiting, pendings, pending_in}
+use Rattle.work.proofs.Meets.{pushed, held}
 use Rattle.work.proofs.work.Work.meet_block.Goals as goal
 
-pub returns : goal.returns
-returns c =
+pub returns-clause-pending : goal.returns-clause-pending
+returns-clause-pending c =
     let k = c.args.self.now in
     let ys = c.args.blocks.now in
-    let n = length_contents k.pending ys c.requires in
-    record {
-      within = c.push_back.ensures.within;
-      worklist = refl;
-      states = refl;
-      size = c.push_back.ensures.size;
-      test = c.push_back.ensures.test ∙ ap (λ z. ltb z (length ys)) (sym (length_pendings k.next_argument (contents k.pending ys) ∙ n));
-      pending = ap (λ a. pendings a (contents c.push_back.new.self c.push_back.new.memory)) c.first_argument-self.ensures
-          ∙ pushed k.pending.count k.next_argument (contents k.pending ys) (contents c.push_back.new.self c.push_back.new.memory) c.args.block c.push_back.result n c.push_back.ensures.items;
-    }
+    let q = c.push_back.new.self in
+    let zs = c.push_back.new.memory in
+    ap (λ a. pendings a (contents q zs)) c.first_argument-self.ensures
+    ∙ pushed k.pending.count k.next_argument (contents k.pending ys) (contents q zs) c.args.block (is_ok c.push_back.result) (length_contents k.pending ys c.requires)
+    (held k.pending q ys zs c.args.block c.push_back.result c.push_back.ensures.items c.push_back.ensures.refused)
+    ∙ ap (λ b. cond b (pending_in k ys ++ waiting c.args.block ∷ []) (pending_in k ys)) (sym c.map_err.ensures.variant)

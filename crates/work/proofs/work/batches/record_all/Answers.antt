@@ -1,4 +1,4 @@
-use Rattle.std.proofs.Common.{◌≡◌, ◌+◌, true, false, get_or, drop, sym, ap, ◌∙◌}
+use Rattle.std.proofs.Common.{◌≡◌, ◌+◌, true, false, get_or, drop, sym, ap, ◌∙◌, rules}
 use Rattle.std.proofs.lemmas.List.{drop_more, drop_all}
 use Rattle.histories.specs.Many.{kept}
 use Rattle.work.specs.Batches.{Recorded, record_all}
@@ -17,6 +17,7 @@ returns-then-not-record c =
     sym c.loop-event.invariant ∙ ap (record_all hs) (drop_more es i zero_event c.loop-event-test.true) ∙ record_stops hs e (drop (i + 1) es) none in
     record {
       all = sym (ap (λ (d : Recorded). d.all) all);
+      fault = search rules;
       after = c.record.ensures.after ∙ none_kept hs (recorded hs e) none ∙ sym (ap (λ (d : Recorded). d.histories) all);
     }
 
@@ -36,4 +37,4 @@ returns c =
     let hs = kept c.loop-event.histories in
     let all : record_all (kept c.args.histories.now) c.args.events.now ≡ record { histories = hs; all = true } =
     sym c.loop-event.invariant ∙ ap (record_all hs) (drop_all c.loop-event.event-index c.args.events.now c.loop-event-test.false) in
-    record { all = sym (ap (λ (d : Recorded). d.all) all); after = sym (ap (λ (d : Recorded). d.histories) all) }
+    record { all = sym (ap (λ (d : Recorded). d.all) all); fault = search rules; after = sym (ap (λ (d : Recorded). d.histories) all) }

@@ -3,7 +3,7 @@ use Rattle.std.proofs.lemmas.List.{drop_all}
 use Rattle.rules_next.specs.Driver.{marks_of}
 use Rattle.states.specs.States.{states_in}
 use Rattle.work.specs.Waiting.{fresh_ops}
-use Rattle.work.proofs.Fresh.{marked_all, fresh_turn}
+use Rattle.work.proofs.Fresh.{marked_all, fresh_more}
 use Rattle.work.proofs.work.waiting.count_fresh.Goals as goal
 use Rattle.work.proofs.work.waiting.count_fresh.Goals.{then-is_fresh, else-is_fresh}
 
@@ -13,11 +13,11 @@ loop-i-preserved c =
     let n = c.loop-i.count in
     elim c.if-is_fresh.branch [
       | then-is_fresh w ↦ (
-        fresh_turn st c.args.ops.now c.loop-i.i n c.if-is_fresh.count c.is_fresh.result c.loop-i-test.true c.loop-i.invariant.0 c.is_fresh.ensures (w.count-is ∙ ap (λ b. n + cond b 1 0) (sym w.if-is_fresh.true)),
+        fresh_more st c.args.ops.now c.loop-i.i n c.if-is_fresh.count c.loop-i-test.true c.loop-i.invariant.0 (w.count-is ∙ ap (λ b. n + cond b 1 0) (sym w.if-is_fresh.true ∙ c.is_fresh.ensures)),
         omega (arith, w.count-is, c.loop-i.invariant.1),
       )
       | else-is_fresh w ↦ (
-        fresh_turn st c.args.ops.now c.loop-i.i n c.if-is_fresh.count c.is_fresh.result c.loop-i-test.true c.loop-i.invariant.0 c.is_fresh.ensures (w.count-is ∙ sym (add-zero n) ∙ ap (λ b. n + cond b 1 0) (sym w.if-is_fresh.false)),
+        fresh_more st c.args.ops.now c.loop-i.i n c.if-is_fresh.count c.loop-i-test.true c.loop-i.invariant.0 (w.count-is ∙ sym (add-zero n) ∙ ap (λ b. n + cond b 1 0) (sym w.if-is_fresh.false ∙ c.is_fresh.ensures)),
         omega (arith, w.count-is, c.loop-i.invariant.1),
       )
     ]
