@@ -54,6 +54,7 @@ impl Raw {
         }
     }
 
+    // Stays: the mirror of set_next; one function for both ways would have to choose between two fields of two structs.
     fn set_prev(&mut self, container: usize, at: Option<usize>, to: Option<usize>)
         requires container { container < length self.old.ends.items }
         requires place { Place self.old.links.items at }

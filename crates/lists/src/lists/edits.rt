@@ -63,10 +63,11 @@ impl LinkedLists {
         requires container { container < containers self.old }
         ensures { Relinked self.old self.new container (node ∷ members self.old container) node (Some container) }
     {
+        let ends = self.raw.ends_of(container);
         let gap = Gap {
             container,
             prev: None,
-            next: self.raw.ends_of(container).head,
+            next: ends.head,
         };
         self.raw.link(node, gap);
     }
@@ -78,9 +79,10 @@ impl LinkedLists {
         requires container { container < containers self.old }
         ensures { Relinked self.old self.new container (members self.old container ++ node ∷ []) node (Some container) }
     {
+        let ends = self.raw.ends_of(container);
         let gap = Gap {
             container,
-            prev: self.raw.ends_of(container).tail,
+            prev: ends.tail,
             next: None,
         };
         self.raw.link(node, gap);
