@@ -75,6 +75,7 @@ read_steps m o q r g e h k = last r g k ∙ middle q r h ∙ ap (on_block m) e
     last : (r : Option RegionId) (g : Option Bool) → MatchOption r (g ≡ None) (λ x. g ≡ option_map (λ (y : Region). y.graph) (find_region m x)) → unwrap_or g false ≡ on_region m r
     last None g k = ap graph_or k
     last (Some x) g k = ap graph_or k
+
     middle : (q : Option BlockId) (r : Option RegionId) → MatchOption q (r ≡ None) (λ b. r ≡ parent_region_of m b) → on_region m r ≡ on_block m q
     middle None r h = ap (on_region m) h
     middle (Some b) r h = ap (on_region m) h

@@ -30,6 +30,7 @@ fn in_graph(store: &Store, op: OpId) -> bool
         .unwrap_or(false)
 }
 
+// Stays: the store and the conversion side by side; `rewrite` takes both by `&mut` between two such questions, so that a struct of the two would be made anew for each.
 impl States {
     /// Is `op` to be rewritten? It is asked only while it is unmarked or queued.
     pub fn is_due<C: DialectConversion>(&self, store: &Store, conversion: &C, op: OpId) -> bool

@@ -54,6 +54,7 @@ impl States {
     pub fn state(&self, store: &Store, op: OpId) -> OpState
         ensures { result ≡ state_of (meaning store.now) (states_in self.now) op }
     {
+        // Stays: a look-up settles whether the identity is dead, here as everywhere.
         let Some(_) = store.kind(op) else {
             return OpState::Erased;
         };

@@ -1,10 +1,8 @@
 use Rattle.std.proofs.Common.{◌≤◌, [], length, sym, ap, ◌∙◌, subst, append-nil, arith}
-use Rattle.std.proofs.lemmas.List.{take_all}
 use Rattle.row.specs.Items.{row_items}
 use Rattle.store.specs.Meaning.{meaning as model}
-use Rattle.law.specs.Lists.{keep}
 use Rattle.law.specs.Machine.{due}
-use Rattle.rules_next.specs.Setting.{real, definers_of}
+use Rattle.rules_next.specs.Setting.{real}
 use Rattle.rules_next.specs.Driver.{marks_of}
 use Rattle.states.specs.States.{states_in}
 use Rattle.states.specs.Due.{at}
@@ -36,11 +34,3 @@ loop-operand-preserved g c =
         omega (arith, ap (λ r. length (row_items r)) w.found-is, c.loop-operand.invariant.1),
       )
     ]
-
-pub returns : goal.returns
-returns g c =
-    let M = g.C.DialectConversion.meaning in
-    let m = model c.args.store.now in
-    let p = due (real M) (at m c.args.conversion.now) (marks_of (states_in c.args.self.now)) in
-    c.loop-operand.invariant.0
-    ∙ ap (λ vs. keep p (definers_of m vs)) (take_all c.loop-operand.operand-index c.in-Some.operands.now c.loop-operand-test.false ∙ operands_read m c.args.op c.in-Some.operands.now c.in-Some.ensures)
