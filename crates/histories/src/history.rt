@@ -3,7 +3,7 @@ ghost use Rattle.rules_next.specs.declared.interface.Fault.TheVariants.{HistoryF
 ghost use Rattle.std.specs.Prelude.{◌≡◌};
 
 use model::ids::Value;
-use row::Row;
+use row::{Row, TooLong};
 use rules_next::interface::Fault;
 use std::error::Error;
 use std::fmt;
@@ -14,7 +14,7 @@ pub const MAX_TYPES: usize = 16;
 pub const MAX_HISTORIES: usize = 1024;
 
 /// A value, and the types that it had, the most recent last.
-#[derive(Clone, Copy)]
+#[derive(Clone, Copy, Default)]
 pub struct TypeHistory {
     pub value: Value,
     pub types: Row<u32, MAX_TYPES>,
@@ -31,6 +31,13 @@ impl fmt::Display for HistoryFull {
 }
 
 impl Error for HistoryFull {}
+
+/// A history has only so many places.
+impl From<TooLong> for HistoryFull {
+    fn from(_long: TooLong) -> HistoryFull {
+        HistoryFull
+    }
+}
 
 impl From<HistoryFull> for Fault {
     ghost from_gives = { λ _ fault. fault ≡ HistoryFull };

@@ -14,7 +14,7 @@ fn without(types: &[u32], ty: u32) -> Row<u32, JOINED_TYPES>
     requires { length types.now ≤ 33 }
     ensures { row_items result ≡ less (nat_eq ty) types.now }
 {
-    let mut others = Row::empty(0);
+    let mut others = Row::default();
     for other in types {
         if ty != *other {
             others.push(*other);

@@ -67,7 +67,7 @@ impl States {
     ) -> Row<OpId, MAX_OPERANDS>
         ensures { row_items result ≡ dues (real C.meaning) (at (model store.now) conversion.now) (marks_of (states_in self.now)) op }
     {
-        let mut found = Row::empty(op);
+        let mut found = Row::default();
         let Some(operands) = store.operands(op) else {
             return found;
         };

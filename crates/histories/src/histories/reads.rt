@@ -12,7 +12,6 @@ use model::ids::Value;
 use model::limits::MAX_OPERANDS;
 use row::Row;
 use std::alloc::{AllocError, Global};
-use tables::records::NO_VALUE;
 
 impl Histories {
     /// No history. Nothing is allocated after this.
@@ -45,7 +44,7 @@ impl Histories {
         let entries = self.entries.as_slice();
         let types = match place_of(entries, value) {
             Some(place) => entries[place].types,
-            None => Row::empty(0),
+            None => Row::default(),
         };
         TypeHistory { value, types }
     }
@@ -55,10 +54,7 @@ impl Histories {
         requires { length operands.now ≤ 8 }
         ensures { histories (row_items result) ≡ map (history_of (kept self.now)) operands.now }
     {
-        let mut all = Row::empty(TypeHistory {
-            value: NO_VALUE,
-            types: Row::empty(0),
-        });
+        let mut all = Row::default();
         for operand in operands {
             all.push(self.history_of(*operand));
         }

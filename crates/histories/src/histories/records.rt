@@ -12,6 +12,7 @@ use crate::joining::{JOINED_TYPES, add_type, add_types};
 use calls::events::RecorderEvent;
 use model::ids::Value;
 use row::Row;
+use std::convert::TryFrom;
 
 impl Histories {
     /// The types that `value` had, none where it is the value `gone`.
@@ -20,9 +21,9 @@ impl Histories {
         ensures count { length (row_items result) ≤ 16 }
     {
         if value == gone {
-            return Row::empty(0);
+            return Row::default();
         }
-        Row::from_slice(0, self.types_had(value)).unwrap()
+        Row::try_from(self.types_had(value)).unwrap()
     }
 
     /// The types that `new` had, when those of `old` with `ty` at their end have gone over to it.
@@ -46,7 +47,7 @@ impl Histories {
         ensures after { kept self.new ≡ (if is_ok result then changed_type (kept self.old) value ty else kept self.old) }
     {
         let all = add_type(self.types_had(value), ty);
-        let types = Row::from_slice(0, all.as_slice()).ok_or(HistoryFull)?;
+        let types = Row::try_from(all.as_slice())?;
         if self.size_with(value) > MAX_HISTORIES {
             return Err(HistoryFull);
         }
@@ -60,7 +61,7 @@ impl Histories {
         ensures after { kept self.new ≡ (if is_ok result then gone_over (kept self.old) old ty new else kept self.old) }
     {
         let all = self.types_over(old, ty, new);
-        let types = Row::from_slice(0, all.as_slice()).ok_or(HistoryFull)?;
+        let types = Row::try_from(all.as_slice())?;
         if !self.has_room(old, new) {
             return Err(HistoryFull);
         }

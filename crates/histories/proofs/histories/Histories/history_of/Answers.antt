@@ -17,4 +17,4 @@ returns-in-None c =
     let xs = c.as_slice-entries.result.now in
     let v = c.args.value in
     let with-types : List ℕ → History = λ ts. record { value = v; types = ts } in
-    ap with-types (c.empty-types.ensures ∙ types_unread xs v c.in-None.ensures.place) ∙ ap (λ ys. history_of (histories ys) v) c.as_slice-entries.ensures.value
+    ap with-types (c.default-types.ensures ∙ types_unread xs v c.in-None.ensures.place) ∙ ap (λ ys. history_of (histories ys) v) c.as_slice-entries.ensures.value

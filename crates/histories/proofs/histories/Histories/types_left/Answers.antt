@@ -13,7 +13,7 @@ returns-then-eq-clause-types c =
     let hs = kept c.args.self.now in
     let v = c.args.value in
     let same : same_value v c.args.gone ≡ true = sym (c.eq.ensures ∙ value_eq v c.args.gone) ∙ c.if-eq.true in
-    c.empty.ensures ∙ sym (types_left c.args.gone hs v ∙ cond-true (same_value v c.args.gone) [] (types_had hs v) same)
+    c.default.ensures ∙ sym (types_left c.args.gone hs v ∙ cond-true (same_value v c.args.gone) [] (types_had hs v) same)
 
 pub returns-clause-types : goal.returns-clause-types
 returns-clause-types c =
