@@ -42,36 +42,6 @@ impl<C: DialectConversion> Setting<'_, C> {
 }
 
 impl Work {
-    /// `op` is met: where it is to be rewritten and has no entry, it goes to the back of the worklist. `queued` counts it, unless it is the
-    /// one in hand, which was counted before.
-    fn meet_op<C: DialectConversion>(
-        &mut self,
-        entries: &mut [OpId],
-        queued: &mut u64,
-        setting: &Setting<'_, C>,
-        op: OpId,
-    ) -> Result<(), Fault>
-        requires within { Within self.old.worklist entries.old }
-        requires room { queued.old + 1 < 2 ^ 64 }
-        ensures within { Within self.new.worklist entries.new }
-        ensures pending { self.new.pending ≡ self.old.pending }
-        ensures size { length entries.new ≡ length entries.old }
-        ensures few { queued.new ≤ queued.old + 1 }
-        ensures meets { (ys : List Block) (hs : List History) → Leaves (λ ms. meet_op C.DialectConversion.meaning (at (model setting.now.store.now) setting.now.conversion.now) (room_of entries.old ys) setting.now.hand (load_of C.DialectConversion.meaning (memory_of self.old entries.old ys hs) queued.old ms) op) (memory_of self.new entries.new ys hs) queued.new result }
-    {
-        if !setting.is_new(&self.states, op) {
-            return Ok(());
-        }
-        self.worklist
-            .push_back(entries, op)
-            .map_err(|_| Fault::Full)?;
-        self.states.note(setting.store, op, OpEvent::Queued);
-        if setting.hand != Some(op) {
-            *queued += 1;
-        }
-        Ok(())
-    }
-
     /// The argument that the first pending block has come to, also where that is still to come.
     fn first_argument(&self) -> u8
         ensures { result ≡ (if nat_eq self.now.pending.count 0 then 0 else self.now.next_argument) }
@@ -102,6 +72,30 @@ impl Work {
 }
 
 impl Lent<'_> {
+    /// `op` is met: where it is to be rewritten and has no entry, it goes to the back of the worklist. `queued` counts it, unless it is the
+    /// one in hand, which was counted before.
+    fn meet_op<C: DialectConversion>(
+        &mut self,
+        setting: &Setting<'_, C>,
+        op: OpId,
+    ) -> Result<(), Fault>
+        requires { self.old.queued.now + 1 < 2 ^ 64 }
+        ensures { MetBy (λ room l. meet_op C.DialectConversion.meaning (at (model setting.now.store.now) setting.now.conversion.now) room setting.now.hand l op) 1 self.old self.new result }
+    {
+        if !setting.is_new(&self.work.states, op) {
+            return Ok(());
+        }
+        self.work
+            .worklist
+            .push_back(self.entries, op)
+            .map_err(|_| Fault::Full)?;
+        self.work.states.note(setting.store, op, OpEvent::Queued);
+        if setting.hand != Some(op) {
+            *self.queued += 1;
+        }
+        Ok(())
+    }
+
     /// `node` is met. What lies in a region is met by itself.
     pub fn meet_node<C: DialectConversion>(
         &mut self,
@@ -112,7 +106,7 @@ impl Lent<'_> {
         ensures { MetBy (λ room l. meet_nodes C.DialectConversion.meaning (at (model setting.now.store.now) setting.now.conversion.now) room setting.now.hand l (node ∷ [])) 1 self.old self.new result }
     {
         match node {
-            IRNode::Operation(op) => self.work.meet_op(self.entries, self.queued, setting, op),
+            IRNode::Operation(op) => self.meet_op(setting, op),
             IRNode::BasicBlock(block) => self.work.meet_block(self.blocks, block),
             IRNode::Region(_) => Ok(()),
         }
