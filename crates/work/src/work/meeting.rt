@@ -1,18 +1,15 @@
 //! Operations and blocks that a walk meets, or that a record says were inserted.
-ghost use Rattle.std.specs.Prelude.{◌≡◌, ℕ, ◌+◌, ◌^◌, ◌<◌, ◌≤◌, List, [], ◌∷◌, ◌++◌, length, is_ok, if◌then◌else◌, nat_eq, nat_lt, IsOkUnless};
-ghost use Rattle.model.specs.declared.ids.OpId.{OpId as Op};
-ghost use Rattle.model.specs.declared.ids.BlockId.{BlockId as Block};
+ghost use Rattle.std.specs.Prelude.{◌≡◌, ◌+◌, ◌^◌, ◌<◌, [], ◌∷◌, ◌++◌, length, is_ok, if◌then◌else◌, nat_eq, nat_lt, IsOkUnless};
 ghost use Rattle.store.specs.Meaning.{meaning as model};
 ghost use Rattle.queue.specs.Contents.{Within};
 ghost use Rattle.law.specs.Machine.{newly};
 ghost use Rattle.rules_next.specs.declared.interface.Fault.TheVariants.{Full};
-ghost use Rattle.rules_next.specs.Histories.{History};
 ghost use Rattle.rules_next.specs.Setting.{real};
 ghost use Rattle.rules_next.specs.Driver.{marks_of, meet_op, meet_nodes};
 ghost use Rattle.states.specs.States.{states_in};
 ghost use Rattle.states.specs.Due.{at};
 ghost use Rattle.work.specs.Lent.{MetBy};
-ghost use Rattle.work.specs.Work.{waiting, pending_in, memory_of, room_of, load_of, Leaves};
+ghost use Rattle.work.specs.Work.{waiting, pending_in};
 
 use super::Work;
 use super::lent::Lent;
