@@ -1,23 +1,16 @@
 -- What comes of an operation or a block that is met.
-use Rattle.std.proofs.Common.{◌≡◌, ℕ, suc, ◌+◌, Bool, true, false, cond, eqb, ltb, List, [], ◌∷◌, ◌++◌, length, is_ok, OnOk, OnErr, Ok, Err, Option, Result, sym, refl, ap, ◌∙◌, arith}
+use Rattle.std.proofs.Common.{◌≡◌, ℕ, suc, Bool, true, false, cond, eqb, List, [], ◌∷◌, ◌++◌, length, is_ok, OnOk, OnErr, Ok, Err, Result, sym, refl, ap, ◌∙◌, arith}
 use Rattle.std.proofs.lemmas.List.{map-append, length-map}
 use Rattle.std.proofs.lemmas.Bool.{eq-eqb, ne_eqb, cond-true}
-use Rattle.model.specs.declared.ids.OpId.{OpId}
 use Rattle.model.specs.declared.ids.BlockId.{BlockId}
 use Rattle.queue.specs.declared.queue.Queue.{Queue}
 use Rattle.queue.specs.Contents.{contents}
-use Rattle.law.specs.Machine.{Moment, newly}
+use Rattle.law.specs.Machine.{Moment}
 use Rattle.rules_next.specs.declared.interface.Fault.{Fault}
-use Rattle.rules_next.specs.declared.interface.Fault.TheVariants as fault
-use Rattle.rules_next.specs.declared.interface.OpEvent.TheVariants as happens
 use Rattle.rules_next.specs.Meaning.{Meaning}
-use Rattle.rules_next.specs.Setting.{Env, real}
-use Rattle.rules_next.specs.Driver.{Memory, Room, Handled, model_of, marks_of, noted, is_hand, fine, stops, laid, unlaid, meet_op, meet_block, with_pending}
-use Rattle.work.specs.Work.{waiting, pendings, load_of, Leaves}
-
--- the memory with an entry for o at the back
-abbrev pub with_entry : {C : Type 0} → Env C → Memory → OpId → Memory
-with_entry e y o = record { worklist = y.worklist ++ o ∷ []; pending = y.pending; states = noted (model_of e) y.states o happens.Queued; histories = y.histories }
+use Rattle.rules_next.specs.Setting.{real}
+use Rattle.rules_next.specs.Driver.{Memory, Handled}
+use Rattle.work.specs.Work.{waiting, pendings, Leaves}
 
 -- one equation gives the three
 pub leaves_by : {C : Type 0} {M : Meaning C} (h k : List (Moment (real M)) → Handled M) (y : Memory) (q : ℕ) (r : Result (Unit {0}) Fault) → ((ms : List (Moment (real M))) → h ms ≡ k ms)
@@ -27,47 +20,6 @@ leaves_by {C} {M} h k y q r e l = record {
   queued = λ ms. ap (λ (x : Handled M). x.load.queued) (e ms) ∙ l.queued ms;
   fault = λ ms. ap (λ (x : Handled M). x.fault) (e ms) ∙ l.fault ms;
 }
-
-module _ {C : Type 0} (M : Meaning C) (e : Env C) (room : Room) (hand : Option OpId) (o : OpId) (y : Memory) (q : ℕ) where
-  abbrev chosen : Bool → Bool → List (Moment (real M)) → Handled M
-  chosen b d ms = cond b (cond d (fine M (laid M e hand (load_of M y q ms) o)) (stops M (unlaid M e (load_of M y q ms) o) fault.Full)) (fine M (unlaid M e (load_of M y q ms) o))
-
-  pub leaves_unmet : newly (real M) e (marks_of y.states) o ≡ false → Leaves (λ ms. meet_op M e room hand (load_of M y q ms) o) y q (Ok tt)
-  leaves_unmet h =
-      leaves_by (λ ms. meet_op M e room hand (load_of M y q ms) o) (chosen false true) y q (Ok tt)
-      (λ ms. ap (λ b. chosen b (ltb (length y.worklist) room.entries) ms) h)
-      (record { memory = λ ms. refl; queued = λ ms. refl; fault = λ ms. refl })
-
-  pub leaves_full : (z : Memory) → newly (real M) e (marks_of y.states) o ≡ true → ltb (length y.worklist) room.entries ≡ false → z ≡ y → Leaves (λ ms. meet_op M e room hand (load_of M y q ms) o) z q (Err fault.Full)
-  leaves_full z h k d =
-      leaves_by (λ ms. meet_op M e room hand (load_of M y q ms) o) (chosen true false) z q (Err fault.Full)
-      (λ ms i. chosen (h i) (k i) ms)
-      (record { memory = λ ms. sym d; queued = λ ms. refl; fault = λ ms. refl })
-
-  pub leaves_laid : (z : Memory) (p : ℕ) → newly (real M) e (marks_of y.states) o ≡ true → ltb (length y.worklist) room.entries ≡ true → z ≡ with_entry e y o → p ≡ q + cond (is_hand hand o) 0 1
-      → Leaves (λ ms. meet_op M e room hand (load_of M y q ms) o) z p (Ok tt)
-  leaves_laid z p h k d f =
-      leaves_by (λ ms. meet_op M e room hand (load_of M y q ms) o) (chosen true true) z p (Ok tt)
-      (λ ms i. chosen (h i) (k i) ms)
-      (record { memory = λ ms. sym d; queued = λ ms. sym f; fault = λ ms. refl })
-
--- a block
-module _ {C : Type 0} (M : Meaning C) (room : Room) (b : BlockId) (y : Memory) (q : ℕ) where
-  abbrev with_block : Memory
-  with_block = with_pending y (y.pending ++ waiting b ∷ [])
-
-  abbrev chosen_block : Bool → List (Moment (real M)) → Handled M
-  chosen_block d ms = cond d (fine M (load_of M with_block q ms)) (stops M (load_of M y q ms) fault.Full)
-
-  pub leaves_no_block : (z : Memory) → ltb (length y.pending) room.blocks ≡ false → z ≡ y → Leaves (λ ms. meet_block M room (load_of M y q ms) b) z q (Err fault.Full)
-  leaves_no_block z h d =
-      leaves_by (λ ms. meet_block M room (load_of M y q ms) b) (chosen_block false) z q (Err fault.Full) (λ ms i. chosen_block (h i) ms)
-      (record { memory = λ ms. sym d; queued = λ ms. refl; fault = λ ms. refl })
-
-  pub leaves_block : (z : Memory) → ltb (length y.pending) room.blocks ≡ true → z ≡ with_pending y (y.pending ++ waiting b ∷ []) → Leaves (λ ms. meet_block M room (load_of M y q ms) b) z q (Ok tt)
-  leaves_block z h d =
-      leaves_by (λ ms. meet_block M room (load_of M y q ms) b) (chosen_block true) z q (Ok tt) (λ ms i. chosen_block (h i) ms)
-      (record { memory = λ ms. sym d; queued = λ ms. refl; fault = λ ms. refl })
 
 -- a block goes behind those that are pending
 pub pendings_more : (n : ℕ) (bs : List BlockId) (b : BlockId) → (bs ≡ [] → n ≡ 0) → pendings n (bs ++ b ∷ []) ≡ pendings n bs ++ waiting b ∷ []

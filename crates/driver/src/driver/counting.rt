@@ -9,6 +9,7 @@ use super::Driver;
 use model::ids::{IRNode, OpId};
 use rules_next::interface::{Counts, Failure, Fate, Fault, Phase, TrailRecord};
 
+// Stays: a function, for `Counts` is of another crate, and no method can be added to it here.
 /// `counts` with one more entry that met this fate.
 fn add_fate(counts: Counts, fate: Fate) -> Counts
     requires { counts.queued + counts.taken + counts.rewritten + counts.aside + counts.waits + counts.stale + counts.questions < 2251799813687296 }

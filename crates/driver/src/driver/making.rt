@@ -1,5 +1,5 @@
 //! A new driver.
-ghost use Rattle.std.specs.Prelude.{◌≡◌, IfOk};
+ghost use Rattle.std.specs.Prelude.{IfOk};
 ghost use Rattle.driver.specs.New.{IsNew};
 
 use super::Driver;

@@ -1,18 +1,15 @@
 //! Operations and blocks that a walk meets, or that a record says were inserted.
-ghost use Rattle.std.specs.Prelude.{◌≡◌, ℕ, ◌+◌, ◌^◌, ◌<◌, ◌≤◌, List, [], ◌∷◌, ◌++◌, length, is_ok, if◌then◌else◌, nat_eq, nat_lt, IsOkUnless};
-ghost use Rattle.model.specs.declared.ids.OpId.{OpId as Op};
-ghost use Rattle.model.specs.declared.ids.BlockId.{BlockId as Block};
+ghost use Rattle.std.specs.Prelude.{◌≡◌, ◌+◌, ◌^◌, ◌<◌, [], ◌∷◌, ◌++◌, length, is_ok, if◌then◌else◌, nat_eq, nat_lt, IsOkUnless};
 ghost use Rattle.store.specs.Meaning.{meaning as model};
 ghost use Rattle.queue.specs.Contents.{Within};
 ghost use Rattle.law.specs.Machine.{newly};
 ghost use Rattle.rules_next.specs.declared.interface.Fault.TheVariants.{Full};
-ghost use Rattle.rules_next.specs.Histories.{History};
 ghost use Rattle.rules_next.specs.Setting.{real};
 ghost use Rattle.rules_next.specs.Driver.{marks_of, meet_op, meet_nodes};
 ghost use Rattle.states.specs.States.{states_in};
 ghost use Rattle.states.specs.Due.{at};
 ghost use Rattle.work.specs.Lent.{MetBy};
-ghost use Rattle.work.specs.Work.{waiting, pending_in, memory_of, room_of, load_of, Leaves};
+ghost use Rattle.work.specs.Work.{waiting, pending_in};
 
 use super::Work;
 use super::lent::Lent;
@@ -42,36 +39,6 @@ impl<C: DialectConversion> Setting<'_, C> {
 }
 
 impl Work {
-    /// `op` is met: where it is to be rewritten and has no entry, it goes to the back of the worklist. `queued` counts it, unless it is the
-    /// one in hand, which was counted before.
-    fn meet_op<C: DialectConversion>(
-        &mut self,
-        entries: &mut [OpId],
-        queued: &mut u64,
-        setting: &Setting<'_, C>,
-        op: OpId,
-    ) -> Result<(), Fault>
-        requires within { Within self.old.worklist entries.old }
-        requires room { queued.old + 1 < 2 ^ 64 }
-        ensures within { Within self.new.worklist entries.new }
-        ensures pending { self.new.pending ≡ self.old.pending }
-        ensures size { length entries.new ≡ length entries.old }
-        ensures few { queued.new ≤ queued.old + 1 }
-        ensures meets { (ys : List Block) (hs : List History) → Leaves (λ ms. meet_op C.DialectConversion.meaning (at (model setting.now.store.now) setting.now.conversion.now) (room_of entries.old ys) setting.now.hand (load_of C.DialectConversion.meaning (memory_of self.old entries.old ys hs) queued.old ms) op) (memory_of self.new entries.new ys hs) queued.new result }
-    {
-        if !setting.is_new(&self.states, op) {
-            return Ok(());
-        }
-        self.worklist
-            .push_back(entries, op)
-            .map_err(|_| Fault::Full)?;
-        self.states.note(setting.store, op, OpEvent::Queued);
-        if setting.hand != Some(op) {
-            *queued += 1;
-        }
-        Ok(())
-    }
-
     /// The argument that the first pending block has come to, also where that is still to come.
     fn first_argument(&self) -> u8
         ensures { result ≡ (if nat_eq self.now.pending.count 0 then 0 else self.now.next_argument) }
@@ -102,6 +69,30 @@ impl Work {
 }
 
 impl Lent<'_> {
+    /// `op` is met: where it is to be rewritten and has no entry, it goes to the back of the worklist. `queued` counts it, unless it is the
+    /// one in hand, which was counted before.
+    fn meet_op<C: DialectConversion>(
+        &mut self,
+        setting: &Setting<'_, C>,
+        op: OpId,
+    ) -> Result<(), Fault>
+        requires { self.old.queued.now + 1 < 2 ^ 64 }
+        ensures { MetBy (λ room l. meet_op C.DialectConversion.meaning (at (model setting.now.store.now) setting.now.conversion.now) room setting.now.hand l op) 1 self.old self.new result }
+    {
+        if !setting.is_new(&self.work.states, op) {
+            return Ok(());
+        }
+        self.work
+            .worklist
+            .push_back(self.entries, op)
+            .map_err(|_| Fault::Full)?;
+        self.work.states.note(setting.store, op, OpEvent::Queued);
+        if setting.hand != Some(op) {
+            *self.queued += 1;
+        }
+        Ok(())
+    }
+
     /// `node` is met. What lies in a region is met by itself.
     pub fn meet_node<C: DialectConversion>(
         &mut self,
@@ -112,7 +103,7 @@ impl Lent<'_> {
         ensures { MetBy (λ room l. meet_nodes C.DialectConversion.meaning (at (model setting.now.store.now) setting.now.conversion.now) room setting.now.hand l (node ∷ [])) 1 self.old self.new result }
     {
         match node {
-            IRNode::Operation(op) => self.work.meet_op(self.entries, self.queued, setting, op),
+            IRNode::Operation(op) => self.meet_op(setting, op),
             IRNode::BasicBlock(block) => self.work.meet_block(self.blocks, block),
             IRNode::Region(_) => Ok(()),
         }
