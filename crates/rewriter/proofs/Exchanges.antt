@@ -79,14 +79,6 @@ module _ (keeps : Bool) (n : Model) (fs : List RecorderEvent) where
       let h = none_left m vs ws e in
       (sym h.0 ∙ a.model, kept_none keeps es ∙ ap (λ ks. es ++ kept keeps ks) (sym h.1) ∙ a.records)
 
--- all are still to take their places
-pub ahead_start : (keeps : Bool) (m : Model) (es : List RecorderEvent) (vs ws us ts : List Value) → us ≡ vs → ts ≡ ws → are_values m vs ≡ true → are_values m ws ≡ true → fits keeps es (length vs) ≡ true
-    → Ahead keeps m es us ts (replace_each m vs ws) (es ++ kept keeps (replacing m vs ws))
-ahead_start keeps m es vs ws us ts d e olds news room =
-    let a : Ahead keeps m es vs ws (replace_each m vs ws) (es ++ kept keeps (replacing m vs ws)) = record { model = refl; records = refl; olds = olds; news = news; room = room } in
-    subst (λ l. Ahead keeps m es us l (replace_each m vs ws) (es ++ kept keeps (replacing m vs ws))) (sym e)
-    (subst (λ l. Ahead keeps m es l ws (replace_each m vs ws) (es ++ kept keeps (replacing m vs ws))) (sym d) a)
-
 -- the reasons against an exchange, in their order, by three tests
 abbrev reasons : Bool → Bool → Bool → Option Refusal
 reasons counts used own = cond counts (cond used (Some StillUsed) (cond own (Some OwnValue) None)) (Some CountsDiffer)

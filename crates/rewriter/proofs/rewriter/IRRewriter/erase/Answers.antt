@@ -1,4 +1,4 @@
-use Rattle.std.proofs.Common.{◌++◌, map, length, sym, refl, ap, ◌∙◌}
+use Rattle.std.proofs.Common.{◌++◌, map, sym, refl, ap, ◌∙◌}
 use Rattle.model.specs.declared.refusal.Refusal.TheVariants.{NotLive}
 use Rattle.store.specs.Meaning.{meaning}
 use Rattle.walkers.specs.Listed.{nodes_in}
@@ -22,13 +22,6 @@ returns-in_err-room g c =
     handed _ _ (erase c.args.node) _ _ _ _ c.from_residual-in_err-room.result c.from_residual-in_err-room.ensures.1 c.in_err-room.ensures.0
     (erase_full _ _ c.args.node (nodes_in c.list_part.new.part) c.in_ok-list_part.ensures c.if-used_outside.ensures
     (ap (fits g.L.RewriteListener.keeps (g.L.RewriteListener.log c.args.self.now.listener)) (sym c.len.ensures) ∙ c.in_err-room.ensures.1))
-
-pub notify_erasures-requires : goal.notify_erasures-requires
-notify_erasures-requires g c =
-    ap (fits g.L.RewriteListener.keeps (g.L.RewriteListener.log c.args.self.now.listener)) (ap length c.as_slice.ensures ∙ sym c.len.ensures) ∙ c.in_ok-room.ensures
-
-pub erase_part-requires : goal.erase_part-requires
-erase_part-requires g c = record { closed = c.in_ok-list_part.ensures.closed; unused = sym c.if-used_outside.ensures }
 
 pub returns : goal.returns
 returns g c =

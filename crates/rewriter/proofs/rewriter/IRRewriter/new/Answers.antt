@@ -1,10 +1,8 @@
-use Rattle.std.proofs.Common.{rules}
-use Rattle.calls.proofs.Performing.{lawful_calls, refused_same}
-use Rattle.calls.proofs.Erasures.{erases_two_blocks}
+use Rattle.calls.proofs.Performing.{lawful_calls}
 use Rattle.rewriter.proofs.rewriter.IRRewriter.new.Goals as goal
 
-pub returns-in_err-part : goal.returns-in_err-part
-returns-in_err-part g c = record { fresh = search rules; lawful = lawful_calls; refusing = refused_same; order = erases_two_blocks }
+pub returns-in_err-part-clause-lawful : goal.returns-in_err-part-clause-lawful
+returns-in_err-part-clause-lawful g c = lawful_calls
 
-pub returns : goal.returns
-returns g c = record { fresh = search rules; lawful = lawful_calls; refusing = refused_same; order = erases_two_blocks }
+pub returns-clause-lawful : goal.returns-clause-lawful
+returns-clause-lawful g c = lawful_calls

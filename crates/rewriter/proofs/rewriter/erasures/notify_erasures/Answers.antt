@@ -2,12 +2,8 @@ use Rattle.std.proofs.Common.{[], ◌∷◌, ◌++◌, map, take, sym, ap, ◌�
 use Rattle.std.proofs.lemmas.List.{take_more, take_all}
 use Rattle.calls.specs.World.{kept, fits}
 use Rattle.calls.specs.Perform.{erasing}
-use Rattle.rewriter.proofs.Ways.{kept_none}
 use Rattle.rewriter.proofs.Erasures.{room_more, told_more}
 use Rattle.rewriter.proofs.rewriter.erasures.notify_erasures.Goals as goal
-
-pub loop-node-init : goal.loop-node-init
-loop-node-init g c = kept_none _ _
 
 pub notify-requires : goal.notify-requires
 notify-requires g c =

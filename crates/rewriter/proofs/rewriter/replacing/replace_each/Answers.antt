@@ -1,10 +1,6 @@
-use Rattle.std.proofs.Common.{rules}
 use Rattle.std.proofs.lemmas.Slice.Zip.{Zip-more, either_empty_from_Zip}
-use Rattle.rewriter.proofs.Exchanges.{ahead_start, ahead_next, ahead_old, ahead_new, ahead_room, ahead_step, ahead_done}
+use Rattle.rewriter.proofs.Exchanges.{ahead_next, ahead_old, ahead_new, ahead_room, ahead_step, ahead_done}
 use Rattle.rewriter.proofs.rewriter.replacing.replace_each.Goals as goal
-
-pub loop-old-init : goal.loop-old-init
-loop-old-init g c = ahead_start _ _ _ c.args.olds.now c.args.news.now _ _ (search rules) (search rules) c.requires.olds c.requires.news c.requires.room
 
 pub replace_value-requires : goal.replace_value-requires
 replace_value-requires g c =
