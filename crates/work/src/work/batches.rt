@@ -22,9 +22,7 @@ fn record_all(histories: &mut Histories, events: &[RecorderEvent]) -> Result<(),
     ensures after { kept histories.new ≡ (record_all (kept histories.old) events.now).histories }
 {
     for event in events {
-        if !histories.record(*event) {
-            return Err(Fault::HistoryFull);
-        }
+        histories.record(*event)?;
     }
     Ok(())
 }
