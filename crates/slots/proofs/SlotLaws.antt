@@ -1,9 +1,12 @@
 -- Slots, and the cells that they are.
-use Rattle.std.proofs.Common.{◌≡◌, ℕ, ◌+◌, ◌<◌, ◌≤◌, Bool, cond, List, map, length, get_or, drop, sym, ap, subst, ◌∙◌, arith}
+use Rattle.std.proofs.Common.{◌≡◌, ℕ, suc, ◌+◌, ◌<◌, ◌≤◌, Bool, true, false, cond, not, ltb, List, [], ◌∷◌, map, length, get_or, filter, position, Some, None, Option, MatchOption, sym, refl, ap, ◌∙◌, inl, inr, arith}
+use Rattle.std.specs.List.{position_or_len}
+use Rattle.std.proofs.lemmas.Bool.{cases_lt, lt-ltb}
+use Rattle.std.proofs.lemmas.List.Quantifiers.{position-Some}
 use Rattle.std.proofs.lemmas.List.{get_or-map, get_or_past, length-map}
 use Rattle.slots.specs.Cells.{Spent, cell_at, is_free, is_live, frees, live_count, cell_of}
-use Rattle.slots.proofs.CellLaws.{frees_step, lives_step}
 use Rattle.slots.specs.declared.table.Slot.{Slot}
+use Rattle.slots.specs.declared.table.Slot.TheVariants as slot
 
 module _ {X : Type 0} (xs : List (Slot X)) (s : ℕ) where
   -- the cell of the slot that was read
@@ -13,13 +16,39 @@ module _ {X : Type 0} (xs : List (Slot X)) (s : ℕ) where
   pub cell_past : length xs ≤ s → cell_at (map cell_of xs) s ≡ Spent
   cell_past le = get_or_past (map cell_of xs) s Spent (omega (arith, length-map xs cell_of))
 
--- one slot more of those that were looked at, ys, is counted
-module _ {X : Type 0} (xs ys : List (Slot X)) (same : ys ≡ xs) (s : ℕ) (x : Slot X) (b : Bool) (lt : s < length ys) (at : x ≡ get_or ys s x) where
-  within : s < length (map cell_of ys)
-  within = omega (arith, length-map ys cell_of)
+picked : {A : Type 0} (b : Bool) (x : A) (ys : List A) → length (cond b (x ∷ ys) ys) ≡ cond b 1 0 + length ys
+picked true x ys = omega arith
+picked false x ys = omega arith
 
-  pub frees_read : b ≡ is_free (cell_of x) → frees (drop s (map cell_of xs)) ≡ cond b 1 0 + frees (drop (s + 1) (map cell_of xs))
-  frees_read h = subst (λ zs. frees (drop s (map cell_of zs)) ≡ cond b 1 0 + frees (drop (s + 1) (map cell_of zs))) same (frees_step (map cell_of ys) s b within (h ∙ ap is_free (sym (cell_read ys s x lt at))))
+module _ {X : Type 0} where
+  -- the slots that can be used, and those in which something lives, picked out and counted
+  pub frees_filtered : (xs : List (Slot X)) → length (filter (λ s. is_free (cell_of s)) xs) ≡ frees (map cell_of xs)
+  frees_filtered [] = refl
+  frees_filtered (x ∷ xs) = picked (is_free (cell_of x)) x (filter (λ s. is_free (cell_of s)) xs) ∙ ap (λ n. cond (is_free (cell_of x)) 1 0 + n) (frees_filtered xs)
 
-  pub lives_read : b ≡ is_live (cell_of x) → live_count (drop s (map cell_of xs)) ≡ cond b 1 0 + live_count (drop (s + 1) (map cell_of xs))
-  lives_read h = subst (λ zs. live_count (drop s (map cell_of zs)) ≡ cond b 1 0 + live_count (drop (s + 1) (map cell_of zs))) same (lives_step (map cell_of ys) s b within (h ∙ ap is_live (sym (cell_read ys s x lt at))))
+  pub lives_filtered : (xs : List (Slot X)) → length (filter (λ s. is_live (cell_of s)) xs) ≡ live_count (map cell_of xs)
+  lives_filtered [] = refl
+  lives_filtered (x ∷ xs) = picked (is_live (cell_of x)) x (filter (λ s. is_live (cell_of s)) xs) ∙ ap (λ n. cond (is_live (cell_of x)) 1 0 + n) (lives_filtered xs)
+
+  -- where the place of the first is past the end, there is none
+  none_free : (xs : List (Slot X)) → length xs ≤ position_or_len (λ s. is_free (cell_of s)) xs → frees (map cell_of xs) ≡ 0
+  none_free [] h = refl
+  none_free (x ∷ xs) h = step (is_free (cell_of x)) (length xs) _ _ h (none_free xs)
+    where
+      step : (b : Bool) (n k m : ℕ) → suc n ≤ cond (not b) (1 + k) 0 → (n ≤ k → m ≡ 0) → cond b 1 0 + m ≡ 0
+      step true n k m h r = absurd (omega arith)
+      step false n k m h r = let z = r (omega arith) in omega (arith, z)
+
+  -- the first slot that can be used
+  pub free_place : (xs : List (Slot X)) (r : Option ℕ) → r ≡ position (λ s. is_free (cell_of s)) xs
+      → MatchOption r (frees (map cell_of xs) ≡ 0) (λ s. is_free (cell_at (map cell_of xs) s) ≡ true)
+  free_place xs None e = none_free xs (past _ _ e)
+    where
+      past : (i n : ℕ) → None ≡ cond (ltb i n) (Some i) None → n ≤ i
+      past i n e = elim (cases_lt i n) [
+        | inl lt ↦ let z : ◌≡◌ {A = ℕ} 0 1 = (let k = e ∙ ap (λ b. cond b (Some i) None) (lt-ltb i n lt) in cc) in absurd (omega arith)
+        | inr le ↦ le
+      ]
+  free_place xs (Some i) e =
+      let p = position-Some (λ (s : Slot X). is_free (cell_of s)) xs i slot.Spent (sym e) in
+      ap is_free (get_or-map cell_of xs i slot.Spent Spent p.0) ∙ p.1

@@ -145,38 +145,21 @@ impl<T: Copy> Table<T> {
     pub fn free_slot(&self) -> Option<usize>
         ensures { MatchOption result (frees (cells self.now) ≡ 0) (λ s. is_free (cell_at (cells self.now) s) ≡ true) }
     {
-        for (place, slot) in self.slots.iter().enumerate() {
-            if slot.is_free() {
-                return Some(place);
-            }
-        }
-        None
+        self.slots.iter().position(|slot| slot.is_free())
     }
 
     /// How many slots can be used.
     pub fn free_count(&self) -> usize
         ensures { result ≡ frees (cells self.now) }
     {
-        let mut count = 0;
-        for slot in &self.slots {
-            if slot.is_free() {
-                count += 1;
-            }
-        }
-        count
+        self.slots.iter().filter(|slot| slot.is_free()).count()
     }
 
     /// In how many slots something lives.
     pub fn live_count(&self) -> usize
         ensures { result ≡ live_count (cells self.now) }
     {
-        let mut count = 0;
-        for slot in &self.slots {
-            if slot.is_live() {
-                count += 1;
-            }
-        }
-        count
+        self.slots.iter().filter(|slot| slot.is_live()).count()
     }
 
     /// Changes what lives in `slot` in its place; nothing where nothing does.

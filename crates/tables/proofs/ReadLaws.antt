@@ -1,10 +1,10 @@
 -- What is read of the tables.
-use Rattle.std.proofs.Common.{◌≡◌, ℕ, zero, suc, ◌+◌, ◌<◌, Bool, ◌&&◌, ltb, List, [], ◌∷◌, length, get_or, drop, is_some, Some, None, Option, sym, ap, ◌∙◌, subst, inl, inr, arith, MatchOption, MatchResult, Ok, Result}
+use Rattle.std.proofs.Common.{◌≡◌, ℕ, zero, suc, ◌+◌, ◌<◌, Bool, ◌&&◌, ltb, List, [], ◌∷◌, length, get_or, drop, is_some, Some, None, Option, sym, refl, ap, ◌∙◌, subst, inl, inr, arith, MatchOption, MatchResult, Ok, Result}
 use Rattle.std.proofs.lemmas.List.{at_drop_more}
 use Rattle.std.proofs.lemmas.Bool.{lt-ltb, le-ltb, cases_lt}
 use Rattle.model.specs.declared.ids.Value.{Value}
 use Rattle.model.specs.Model as model
-use Rattle.std.specs.List.{slice_get}
+use Rattle.std.specs.List.{slice_get, list_all}
 
 module _ {X : Type 0} where
   pub nth_at : (xs : List X) (i : ℕ) (x : X) → slice_get xs i ≡ Some x → x ≡ get_or xs i x
@@ -25,13 +25,10 @@ module _ {X : Type 0} where
       ltb_suc : (i n : ℕ) → ltb i n ≡ ltb (suc i) (suc n)
       ltb_suc i n = elim (cases_lt i n) [ inl h ↦ lt-ltb i n h ∙ sym (lt-ltb (suc i) (suc n) (omega arith)) | inr h ↦ le-ltb i n h ∙ sym (le-ltb (suc i) (suc n) (omega arith)) ]
 
--- one value more is looked at
-pub values_more : (m : model.Model) (vs : List Value) (i : ℕ) (d : Value) → i < length vs → model.are_values m (drop i vs) ≡ (model.is_value m (get_or vs i d) && model.are_values m (drop (i + 1) vs))
-values_more m vs i d h = at_drop_more (model.are_values m) vs i d h
-
--- a value that is not live is found, or one more is
-pub values_step : (m : model.Model) (vs : List Value) (i : ℕ) (d : Value) (b : Bool) → i < length vs → b ≡ model.is_value m (get_or vs i d) → (b && model.are_values m (drop (i + 1) vs)) ≡ model.are_values m (drop i vs)
-values_step m vs i d b h e = ap (λ t. t && model.are_values m (drop (i + 1) vs)) e ∙ sym (values_more m vs i d h)
+-- one pass over the values
+pub values_all : (m : model.Model) (vs : List Value) → list_all (model.is_value m) vs ≡ model.are_values m vs
+values_all m [] = refl
+values_all m (v ∷ vs) = ap (λ b. model.is_value m v && b) (values_all m vs)
 
 pub cases_some : {X : Type 0} (r : Option X) (P : Type 0) (Q : X → Type 0) (x : X) → MatchOption r P Q → r ≡ Some x → Q x
 cases_some r P Q x h e = subst (λ z. MatchOption z P Q) e h

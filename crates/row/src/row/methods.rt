@@ -66,27 +66,4 @@ impl<T: Copy, const N: usize> Row<T, N> {
             *item = f(*item);
         }
     }
-
-    // Old name, goes when no crate calls it.
-    pub fn empty(fill: T) -> Row<T, N>
-        ensures { row_items result ≡ [] }
-    {
-        Row {
-            items: [fill; N],
-            len: 0,
-        }
-    }
-
-    // Old name, goes when no crate calls it.
-    pub fn from_slice(fill: T, items: &[T]) -> Option<Row<T, N>>
-        ensures { MatchOption result (N < length items.now) (λ row. row_items row ≡ items.now) }
-    {
-        let len = items.len();
-        if N < len {
-            return None;
-        }
-        let mut all = [fill; N];
-        all[..len].copy_from_slice(items);
-        Some(Row { items: all, len })
-    }
 }

@@ -81,13 +81,7 @@ impl Tables {
     pub fn are_values(&self, values: &[Value]) -> bool
         ensures { result ≡ are_values (view self.now) values.now }
     {
-        // Stays: a `for`, since of `values.iter().all(..)` the check does not prove the result.
-        for value in values {
-            if !self.is_value(*value) {
-                return false;
-            }
-        }
-        true
+        values.iter().all(|value| self.is_value(*value))
     }
 
     /// May an operation be made? If not, why.
