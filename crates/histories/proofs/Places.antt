@@ -10,7 +10,7 @@ use Rattle.model.specs.contracts.ids.ValuePartialEq.TheImpl.{ghosts}
 use Rattle.rules_next.specs.Histories.{History, types_had}
 use Rattle.histories.specs.declared.history.TypeHistory.{TypeHistory}
 use Rattle.histories.specs.Kept.{history, histories, place_of, is_kept, place_in}
-use Rattle.histories.proofs.Same.{value_eq}
+use Rattle.model.proofs.Equal.{value_eq}
 
 -- the first entry of the value is the one that is looked for
 place_first : (v : Value) (xs : List TypeHistory) → place_of (histories xs) v ≡ position_or_len (λ (x : TypeHistory). ghosts.eq x.value v) xs

@@ -221,9 +221,6 @@ pub some_of : (o : Option ℕ) → is_some o ≡ true → (x : ℕ) × (o ≡ So
 some_of None e = let z : ◌≡◌ {A = ℕ} 0 1 = cc in absurd (omega arith)
 some_of (Some x) e = (x, refl)
 
-pub homed_some : (L : List Links) (x : ℕ) → is_some (home_of L x) ≡ true → x < length L
-homed_some L x h = let t = some_of (home_of L x) h in homed L x t.0 t.1
-
 pub next_read : (L : List Links) (E : List Ends) → Sound L E → (x : ℕ) → (links_at L x).next ≡ next_in (members L E) (home_of L x) x
 next_read L E s x = at (home_of L x) refl
   where

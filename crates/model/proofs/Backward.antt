@@ -47,11 +47,6 @@ prev_next ms h a x = at (h x) refl
     at None e = refl
     at (Some c) e = before_after x (ms c) (a.apart c) (a.held c x e)
 
--- a loop over a slice from its end
-pub back_more : {X Y : Type 0} (f : X → List Y) (xs : List X) (i : ℕ) (d : X) → i < length xs
-    → flat_map f (reverse (take (i + 1) xs)) ≡ f (get_or xs i d) ++ flat_map f (reverse (take i xs))
-back_more f xs i d h = ap (λ ys. flat_map f (reverse ys)) (take_more xs i d h) ∙ ap (flat_map f) (reverse-append (take i xs) (get_or xs i d ∷ []))
-
 pub map_reverse : {X Y : Type 0} (g : X → Y) (xs : List X) → map g (reverse xs) ≡ reverse (map g xs)
 map_reverse g [] = refl
 map_reverse g (x ∷ xs) = ap (map g) (reverse-cons x xs) ∙ ends (reverse xs) ∙ ap (λ ys. ys ++ g x ∷ []) (map_reverse g xs) ∙ sym (reverse-cons (g x) (map g xs))

@@ -43,21 +43,6 @@ each_length m [] ws = refl
 each_length m (v ∷ vs) [] = refl
 each_length m (v ∷ vs) (w ∷ ws) = each_length (replace_all m v w) vs ws ∙ length-map m.ops (viewed (reused v w))
 
--- one value goes through the i-th pair, and is done behind the last
-pub chained_step : (vs ws : List Value) (i : ℕ) (d e u : Value) → i < length vs → i < length ws
-    → chained (drop (i + 1) vs) (drop (i + 1) ws) (replaced (get_or vs i d) (get_or ws i e) u) ≡ chained (drop i vs) (drop i ws) u
-chained_step vs ws i d e u h k = sym (ap (λ l. chained l (drop i ws) u) (drop_more vs i d h) ∙ ap (λ l. chained (get_or vs i d ∷ drop (i + 1) vs) l u) (drop_more ws i e k))
-
-pub chained_past : (vs ws : List Value) (i : ℕ) (u : Value) → length vs ≤ i → u ≡ chained (drop i vs) (drop i ws) u
-chained_past vs ws i u h = sym (ap (λ l. chained l (drop i ws) u) (drop_all i vs h))
-
-pub chained_short : (vs ws : List Value) (i : ℕ) (u : Value) → length ws ≤ i → u ≡ chained (drop i vs) (drop i ws) u
-chained_short vs ws i u h = sym (ap (λ l. chained (drop i vs) l u) (drop_all i ws h) ∙ at (drop i vs))
-  where
-    at : (l : List Value) → chained l [] u ≡ u
-    at [] = refl
-    at (v ∷ l) = refl
-
 -- as many results as asked for
 pub results_length : (o : OpId) (i n : ℕ) → length (results_from o i n) ≡ n
 results_length o i zero = refl

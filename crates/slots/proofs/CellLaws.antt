@@ -28,14 +28,6 @@ module _ {X : Type 0} where
         | inr le ↦ absurd (never (sym (ap is_live (get_or_past cs s Spent le)) ∙ h))
       ]
 
-  -- what a loop over the cells counts
-  pub frees_more : (cs : List (Cell X)) (i : ℕ) → i < length cs → frees (drop i cs) ≡ cond (is_free (cell_at cs i)) 1 0 + frees (drop (i + 1) cs)
-  frees_more cs i h = at_drop_more frees cs i Spent h
-
-  pub frees_few : (cs : List (Cell X)) → frees cs ≤ length cs
-  frees_few [] = omega arith
-  frees_few (c ∷ cs) = let h = frees_few cs in elim c as (λ v. cond (is_free v) 1 0 + frees cs ≤ length (c ∷ cs)) [ Free g ↦ omega arith | Live g x ↦ omega arith | Spent ↦ omega arith ]
-
   -- what is live is not free
   pub lives_few : (cs : List (Cell X)) → frees cs + live_count cs ≤ length cs
   lives_few [] = omega arith
@@ -43,16 +35,10 @@ module _ {X : Type 0} where
       let h = lives_few cs in
       elim c as (λ v. (cond (is_free v) 1 0 + frees cs) + (cond (is_live v) 1 0 + live_count cs) ≤ length (c ∷ cs)) [ Free g ↦ omega arith | Live g x ↦ omega arith | Spent ↦ omega arith ]
 
-  pub lives_step : (cs : List (Cell X)) (i : ℕ) (b : Bool) → i < length cs → b ≡ is_live (cell_at cs i) → live_count (drop i cs) ≡ cond b 1 0 + live_count (drop (i + 1) cs)
-  lives_step cs i b h e = at_drop_more live_count cs i Spent h ∙ ap (λ v. cond v 1 0 + live_count (drop (i + 1) cs)) (sym e)
-
   pub free_is : (c : Cell X) → is_free c ≡ true → (g : ℕ) × (c ≡ Free g)
   free_is (Free g) e = (g, refl)
   free_is (Live g x) e = absurd (never e)
   free_is Spent e = absurd (never e)
-
-  pub frees_step : (cs : List (Cell X)) (i : ℕ) (b : Bool) → i < length cs → b ≡ is_free (cell_at cs i) → frees (drop i cs) ≡ cond b 1 0 + frees (drop (i + 1) cs)
-  frees_step cs i b h e = frees_more cs i h ∙ ap (λ v. cond v 1 0 + frees (drop (i + 1) cs)) (sym e)
 
   pub live_not_free : (cs : List (Cell X)) (s g : ℕ) (x : X) → cell_at cs s ≡ Live g x → is_free (cell_at cs s) ≡ true → ⊥
   live_not_free cs s g x e h = never (sym (ap is_free e) ∙ h)

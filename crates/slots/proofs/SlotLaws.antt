@@ -13,9 +13,6 @@ module _ {X : Type 0} (xs : List (Slot X)) (s : ℕ) where
   pub cell_read : (x : Slot X) → s < length xs → x ≡ get_or xs s x → cell_at (map cell_of xs) s ≡ cell_of x
   cell_read x lt e = get_or-map cell_of xs s x Spent lt ∙ ap cell_of (sym e)
 
-  pub cell_past : length xs ≤ s → cell_at (map cell_of xs) s ≡ Spent
-  cell_past le = get_or_past (map cell_of xs) s Spent (omega (arith, length-map xs cell_of))
-
 picked : {A : Type 0} (b : Bool) (x : A) (ys : List A) → length (cond b (x ∷ ys) ys) ≡ cond b 1 0 + length ys
 picked true x ys = omega arith
 picked false x ys = omega arith

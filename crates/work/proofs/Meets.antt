@@ -26,10 +26,6 @@ pub pendings_more : (n : ℕ) (bs : List BlockId) (b : BlockId) → (bs ≡ [] �
 pendings_more n [] b h = ap (λ k. record { block = b; next = k } ∷ []) (h refl)
 pendings_more n (a ∷ bs) b h = ap (λ z. record { block = a; next = n } ∷ z) (map-append waiting bs (b ∷ []))
 
-pub length_pendings : (n : ℕ) (bs : List BlockId) → length (pendings n bs) ≡ length bs
-length_pendings n [] = refl
-length_pendings n (b ∷ bs) = ap suc (length-map bs waiting)
-
 -- where none is pending, the next one begins with its first argument
 abbrev pub begun : ℕ → ℕ → ℕ
 begun k n = cond (eqb k 0) 0 n

@@ -45,14 +45,18 @@ impl Store {
     pub fn operands(&self, op: OpId) -> Option<&[Value]>
         ensures { option_map (λ x. x.now) result ≡ option_map (λ x. x.operands) (find_op (meaning self.now) op) }
     {
-        self.tables.operation(op).map(|operation| operation.operands.as_slice())
+        self.tables
+            .operation(op)
+            .map(|operation| operation.operands.as_slice())
     }
 
     /// The types of the results of an operation.
     pub fn result_types(&self, op: OpId) -> Option<&[u32]>
         ensures { option_map (λ x. x.now) result ≡ option_map (λ x. x.results) (find_op (meaning self.now) op) }
     {
-        self.tables.operation(op).map(|operation| operation.results.as_slice())
+        self.tables
+            .operation(op)
+            .map(|operation| operation.results.as_slice())
     }
 
     /// The results of an operation, as values: none where it is not live.
@@ -69,7 +73,9 @@ impl Store {
     pub fn regions(&self, op: OpId) -> Option<&[RegionId]>
         ensures { option_map (λ x. x.now) result ≡ option_map (λ x. x.regions) (find_op (meaning self.now) op) }
     {
-        self.tables.operation(op).map(|operation| operation.regions.as_slice())
+        self.tables
+            .operation(op)
+            .map(|operation| operation.regions.as_slice())
     }
 
     /// The type of a value.

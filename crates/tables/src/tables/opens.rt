@@ -23,7 +23,11 @@ fn open_region(regions: &mut Table<Region>, owner: OpId, graph: bool) -> RegionI
 }
 
 /// Opens a region for `owner` for each mark, and answers their identities.
-pub fn open_regions(regions: &mut Table<Region>, owner: OpId, marks: &[bool]) -> Row<RegionId, MAX_REGIONS>
+pub fn open_regions(
+    regions: &mut Table<Region>,
+    owner: OpId,
+    marks: &[bool],
+) -> Row<RegionId, MAX_REGIONS>
     requires few { length marks.now ≤ 4 }
     requires room { length marks.now ≤ frees (cells regions.old) }
     ensures { Opened (cells regions.old) (cells regions.new) owner marks.now (row_items result) }

@@ -65,7 +65,9 @@ impl Tables {
         match value.definer {
             DefiningEntity::Op(op) => self.operation(op)?.results.get(usize::from(value.index)),
             DefiningEntity::Block(block) => {
-                self.basic_block(block)?.arguments.get(usize::from(value.index))
+                self.basic_block(block)?
+                    .arguments
+                    .get(usize::from(value.index))
             }
         }
     }

@@ -6,7 +6,7 @@ use Rattle.rules_next.specs.Histories.{History}
 use Rattle.histories.specs.Kept.{histories, entries_of}
 use Rattle.histories.specs.Many.{kept}
 use Rattle.histories.proofs.Puts.{kept_histories}
-use Rattle.histories.proofs.Same.{value_eq}
+use Rattle.model.proofs.Equal.{value_eq}
 use Rattle.histories.proofs.histories.Histories.drop_types.Goals as goal
 
 pub returns : goal.returns

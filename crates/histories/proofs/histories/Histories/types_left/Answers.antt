@@ -5,7 +5,7 @@ use Rattle.model.specs.Calls.{same_value}
 use Rattle.rules_next.specs.Histories.{types_had}
 use Rattle.histories.specs.Many.{kept}
 use Rattle.histories.proofs.Limits.{types_left}
-use Rattle.histories.proofs.Same.{value_eq}
+use Rattle.model.proofs.Equal.{value_eq}
 use Rattle.histories.proofs.histories.Histories.types_left.Goals as goal
 
 pub returns-then-eq-clause-types : goal.returns-then-eq-clause-types

@@ -9,5 +9,5 @@ use Rattle.slots.proofs.table.Table.live_count.Goals as goal
 pub returns : goal.returns
 returns g c =
     count_from_yields_List _ c.count.result c.count.ensures.ran
-        (YieldsList-from_filter _ (λ (s : Slot _). is_live (cell_of s)) (YieldsList-from_slice c.args.self.now.slots.items cc) refl (λ x b q k. search (rules, tests)))
+    (YieldsList-from_filter _ (λ (s : Slot _). is_live (cell_of s)) (YieldsList-from_slice c.args.self.now.slots.items cc) refl (λ x b q k. search (rules, tests)))
     ∙ lives_filtered c.args.self.now.slots.items

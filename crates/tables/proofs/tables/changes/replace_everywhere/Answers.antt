@@ -19,6 +19,6 @@ loop-slot-preserved c =
     let lty : i < length (map cell_of items) = omega (arith, length-map items cell_of) in
     let here = get_or-map (viewed view_op) (map cell_of items) i (cell_of c.slot-item.result) v lty ∙ ap (viewed view_op) (get_or-map cell_of items i c.slot-item.result (cell_of c.slot-item.result) few ∙ ap cell_of (sym c.slot-item.is)) in (
       ap (map (viewed view_op)) (map-set cell_of items i _) ∙ map-set (viewed view_op) (map cell_of items) i _ ∙ ap (set ys i) (c.replace_in.ensures ∙ ap (λ s. G (viewed view_op (cell_of s))) (sym c.slot-item.is))
-      ∙ map_over_more G xs ys i v lt c.loop-slot.invariant.0 (sym here),
+          ∙ map_over_more G xs ys i v lt c.loop-slot.invariant.0 (sym here),
       length-set items i _ ∙ c.loop-slot.invariant.1,
     )
