@@ -155,7 +155,8 @@ impl Bench {
     }
 
     /// The name of a node, `?` where it has none.
-    pub fn name_of(&self, node: IRNode) -> &str {
+    pub fn name_of<N: Into<IRNode>>(&self, node: N) -> &str {
+        let node = node.into();
         self.names
             .iter()
             .find(|(_, nodes)| nodes.contains(&node))

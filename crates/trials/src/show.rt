@@ -1,11 +1,12 @@
 //! What the bench holds, as text.
 use crate::bench::Bench;
 use calls::events::RecorderEvent;
-use model::ids::{BlockId, IRNode, OpId, Value};
+use model::ids::{IRNode, OpId, Value};
 use model::points::OpInsertionPoint;
 use std::alloc::AllocError;
 use std::fmt::Write;
 
+// Stays: three lines; the two programs share no crate that makes text.
 fn push_types(types: &[u32], text: &mut String) -> Result<(), AllocError> {
     for each in types {
         write!(text, " {each}")?;
@@ -14,19 +15,11 @@ fn push_types(types: &[u32], text: &mut String) -> Result<(), AllocError> {
 }
 
 impl Bench {
-    fn op_name(&self, op: OpId) -> &str {
-        self.name_of(op.into())
-    }
-
-    fn block_name(&self, block: BlockId) -> &str {
-        self.name_of(block.into())
-    }
-
     /// A node by its name; a region by its owner's.
     fn node_text(&self, node: IRNode) -> Result<String, AllocError> {
         match node {
             IRNode::Region(region) => match self.store.get_parent_op(region) {
-                Some(op) => format!(in self.heap; "region of {}", self.op_name(op)),
+                Some(op) => format!(in self.heap; "region of {}", self.name_of(op)),
                 None => String::from_str(self.heap, "region"),
             },
             _ => String::from_str(self.heap, self.name_of(node)),
@@ -34,7 +27,7 @@ impl Bench {
     }
 
     fn value_text(&self, value: Value) -> Result<String, AllocError> {
-        format!(in self.heap; "{}.{}", self.name_of(value.definer.into()), value.index)
+        format!(in self.heap; "{}.{}", self.name_of(value.definer), value.index)
     }
 
     /// The nodes that were listed last.
@@ -56,10 +49,10 @@ impl Bench {
     fn point_text(&self, point: OpInsertionPoint) -> Result<String, AllocError> {
         let (place, name) = match point {
             OpInsertionPoint::Unset => return String::from_str(self.heap, "unset"),
-            OpInsertionPoint::AtBlockStart(block) => ("start", self.block_name(block)),
-            OpInsertionPoint::AtBlockEnd(block) => ("end", self.block_name(block)),
-            OpInsertionPoint::AfterOperation(op) => ("after", self.op_name(op)),
-            OpInsertionPoint::BeforeOperation(op) => ("before", self.op_name(op)),
+            OpInsertionPoint::AtBlockStart(block) => ("start", self.name_of(block)),
+            OpInsertionPoint::AtBlockEnd(block) => ("end", self.name_of(block)),
+            OpInsertionPoint::AfterOperation(op) => ("after", self.name_of(op)),
+            OpInsertionPoint::BeforeOperation(op) => ("before", self.name_of(op)),
         };
         format!(in self.heap; "{place} {name}")
     }
@@ -67,16 +60,16 @@ impl Bench {
     fn event_text(&self, event: RecorderEvent) -> Result<String, AllocError> {
         match event {
             RecorderEvent::InsertedOperation(op) => {
-                format!(in self.heap; "inserted {}", self.op_name(op))
+                format!(in self.heap; "inserted {}", self.name_of(op))
             }
             RecorderEvent::InsertedBlock(block) => {
-                format!(in self.heap; "inserted block {}", self.block_name(block))
+                format!(in self.heap; "inserted block {}", self.name_of(block))
             }
             RecorderEvent::ErasedOperation(op) => {
-                format!(in self.heap; "erased {}", self.op_name(op))
+                format!(in self.heap; "erased {}", self.name_of(op))
             }
             RecorderEvent::ErasedBlock(block) => {
-                format!(in self.heap; "erased block {}", self.block_name(block))
+                format!(in self.heap; "erased block {}", self.name_of(block))
             }
             RecorderEvent::ErasedRegion(_) => String::from_str(self.heap, "erased region"),
             RecorderEvent::ReplacedValueUses(old, from, new) => {
@@ -90,7 +83,7 @@ impl Bench {
             }
             RecorderEvent::UnlinkedOperation(op, place) => {
                 let place = self.point_text(place)?;
-                format!(in self.heap; "unlinked {} from {place}", self.op_name(op))
+                format!(in self.heap; "unlinked {} from {place}", self.name_of(op))
             }
         }
     }
@@ -127,15 +120,15 @@ impl Bench {
             IRNode::Operation(op) => {
                 text.push_str(self.op_text(op)?.as_str())?;
                 if let Some(block) = self.store.get_parent_block(op) {
-                    text.push_str(self.block_name(block))?;
+                    text.push_str(self.name_of(block))?;
                 }
                 if let Some(next) = self.store.get_next_operation(op) {
-                    text.push_str(self.op_name(next))?;
+                    text.push_str(self.name_of(next))?;
                 }
             }
             IRNode::BasicBlock(block) => {
                 if let Some(next) = self.store.get_next_block(block) {
-                    text.push_str(self.block_name(next))?;
+                    text.push_str(self.name_of(next))?;
                 }
                 push_types(self.store.argument_types(block).unwrap_or(&[]), text)?;
             }
@@ -147,8 +140,7 @@ impl Bench {
     /// All that the store, the insertion point and the records hold of what has a name: to see that a refused call left it.
     pub fn snapshot(&self) -> Result<String, AllocError> {
         let mut text = self.records_text()?;
-        let point = self.point_text(self.rewriter.get_insertion_point())?;
-        text.push_str(point.as_str())?;
+        write!(text, "{}", self.point_text(self.rewriter.get_insertion_point())?)?;
         for node in self.names.values().flatten() {
             text.push_str(";")?;
             self.push_node(*node, &mut text)?;

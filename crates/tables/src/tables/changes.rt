@@ -12,15 +12,6 @@ use model::limits::MAX_OPERANDS;
 use row::Row;
 use slots::{Slot, Table};
 
-/// The result `index` of the operation in `slot` has the type `to`.
-pub fn set_result_type(operations: &mut Table<Operation>, slot: usize, index: usize, to: u32)
-    ensures { Changed view_op (retyped index to) slot operations.old operations.new }
-{
-    operations.change(slot, |operation| {
-        operation.results.set(index, to);
-    });
-}
-
 /// `new` in place of `old`, and any other value as it is.
 pub fn exchange(value: Value, old: Value, new: Value) -> Value
     ensures { result ≡ replaced old new value }
@@ -33,15 +24,6 @@ fn replace_uses(operands: &mut Row<Value, MAX_OPERANDS>, old: Value, new: Value)
     ensures { row_items operands.new ≡ map (replaced old new) (row_items operands.old) }
 {
     operands.update(|value| exchange(value, old, new));
-}
-
-/// The argument `index` of the block in `slot` has the type `to`.
-pub fn set_argument_type(blocks: &mut Table<BasicBlock>, slot: usize, index: usize, to: u32)
-    ensures { Changed view_block (reargued index to) slot blocks.old blocks.new }
-{
-    blocks.change(slot, |basic_block| {
-        basic_block.arguments.set(index, to);
-    });
 }
 
 /// `new` stands in place of `old` among the operands of the operation in `slot`.
@@ -67,13 +49,14 @@ impl Tables {
         ensures after { view self.new ≡ typed_at (view self.old) value.definer value.index to }
         ensures sizes { sizes self.new ≡ sizes self.old }
     {
+        let index = usize::from(value.index);
         match value.definer {
-            DefiningEntity::Op(op) => {
-                set_result_type(&mut self.operations, op.slot, value.index as usize, to)
-            }
-            DefiningEntity::Block(block) => {
-                set_argument_type(&mut self.blocks, block.slot, value.index as usize, to)
-            }
+            DefiningEntity::Op(op) => self.operations.change(op.slot, |operation| {
+                operation.results.set(index, to);
+            }),
+            DefiningEntity::Block(block) => self.blocks.change(block.slot, |basic_block| {
+                basic_block.arguments.set(index, to);
+            }),
         }
     }
 

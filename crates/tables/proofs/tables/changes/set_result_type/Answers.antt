@@ -1,8 +1,0 @@
-use Rattle.std.proofs.Common.{rules, ap}
-use Rattle.model.specs.Calls.{retyped}
-use Rattle.tables.specs.View.{view_op}
-use Rattle.tables.proofs.ChangeLaws.{changed_by}
-use Rattle.tables.proofs.tables.changes.set_result_type.Goals as goal
-
-pub returns : goal.returns
-returns c = changed_by view_op (retyped c.args.index c.args.to) _ (λ x y q. search rules) c.args.operations.now c.change.new.self c.args.slot c.change.ensures
