@@ -9,6 +9,7 @@ pub struct OpId {
     pub generation: u32,
 }
 
+// Stays: three identities of two fields; one generic type would need a marker for each kind and a phantom field.
 #[derive(Clone, Copy, Debug, Default, PartialEq, Eq)]
 pub struct BlockId {
     pub slot: usize,
@@ -29,6 +30,7 @@ pub enum DefiningEntity {
 }
 
 /// What stands in a place of a row that holds no value.
+// Stays: by hand, since derive(Default) takes a variant without a field only.
 impl Default for DefiningEntity {
     ghost is_default = { λ definer. definer ≡ Op (record { slot = 0; generation = 0 }) };
 

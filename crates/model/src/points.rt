@@ -19,6 +19,7 @@ pub enum OpInsertionPoint {
     BeforeOperation(OpId),
 }
 
+// Stays: two enums, each with the names of the places that the IR gives it: operations in blocks, blocks in regions.
 /// A place for a block.
 #[derive(Clone, Copy, Debug, PartialEq, Eq)]
 pub enum BlockInsertionPoint {

@@ -7,6 +7,7 @@ mod methods;
 /// `count` elements, the first at the place `front`, and past the last place of the memory the first place follows.
 #[derive(Clone, Copy, Debug, PartialEq, Eq, Default)]
 pub struct Queue {
+    // Stays: two numbers over memory that is lent at each call.
     front: usize,
     count: usize,
 }

@@ -30,6 +30,7 @@ pub trait RewriteListener {
 /// It keeps the records in order, in memory that is reserved when it is made.
 #[derive(Drop)]
 pub struct Recorder {
+    // Stays: reserved when it is made, since nothing allocates afterwards.
     events: Vec<RecorderEvent>,
     ghost within: { length events.items ≤ 1024 },
     ghost reserved: { 1024 ≤ vec_capacity events },

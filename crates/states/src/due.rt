@@ -89,6 +89,7 @@ impl States {
         ensures { result ≡ plain (member (first_due (real C.meaning) (at (model store.now) conversion.now) (marks_of (states_in self.now))) 512 op) }
     {
         let mut link = op;
+        // Stays: no index; the chain is followed so many links.
         for _ in 0..OPERATIONS {
             link = self.due_definers(store, conversion, link).get(0)?;
         }

@@ -6,6 +6,7 @@ use slots::Table;
 
 #[derive(Drop)]
 pub struct Tables {
+    // Stays: no ghost field for the sizes, since tables of any sizes can be made; so each change says that they stay.
     pub operations: Table<Operation>,
     pub blocks: Table<BasicBlock>,
     pub regions: Table<Region>,

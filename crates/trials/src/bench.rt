@@ -135,6 +135,7 @@ impl Bench {
         }
     }
 
+    // Stays: beside `op_point`, since the two kinds of points are two types.
     pub fn block_point(&self, line: &str, from: usize) -> BlockInsertionPoint {
         let mut words = line.split_whitespace().skip(from);
         let (place, name) = (words.next(), words.next().unwrap_or(""));

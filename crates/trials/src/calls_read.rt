@@ -65,6 +65,7 @@ impl Bench {
         let first = word(line, 1).unwrap_or("");
         let second = word(line, 2).unwrap_or("");
         let op = self.op(first);
+        // Stays: the first word of a line names its call; one match is the plainest table of them.
         match word(line, 0).unwrap_or("") {
             "make" => self.make(line)?,
             "block" => self.create(line)?,

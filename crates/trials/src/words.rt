@@ -6,6 +6,7 @@ pub fn word(line: &str, at: usize) -> Option<&str> {
 }
 
 /// A number, 0 where the word is none.
+// Stays: a line that lacks a number is read as 0, which its call then answers for.
 pub fn number(text: &str) -> u32 {
     text.parse().unwrap_or(0)
 }

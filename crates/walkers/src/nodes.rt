@@ -11,6 +11,7 @@ pub const NODES: usize = OPERATIONS + BLOCKS + REGIONS;
 
 #[derive(Drop)]
 pub struct Nodes {
+    // Stays: reserved when it is made, since nothing allocates afterwards.
     items: Vec<IRNode>,
     ghost reserved: { 768 ≤ vec_capacity items },
 }

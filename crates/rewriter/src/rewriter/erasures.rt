@@ -44,6 +44,7 @@ impl<L: RewriteListener> IRRewriter<L> {
         self.erase(store, op.into())
     }
 
+    // Stays: three names for users, each one line over `erase`.
     /// Erases `block` and all that lies in it.
     pub fn erase_block(&mut self, store: &mut Store, block: BlockId) -> Result<(), Refusal>
         ensures { Does L.keeps L.log store.old self.old (erase (BasicBlock block)) store.new self.new (told result) }

@@ -17,6 +17,7 @@ impl Store {
         self.tables.operations.live_count()
     }
 
+    // Stays: three counts of three tables, each one line under its own bound.
     /// How many blocks live: with the slots that are free no more than 128.
     pub fn live_blocks(&self) -> usize
         ensures answer { result ≡ live_count (meaning self.now).blocks }

@@ -17,6 +17,7 @@ fn first_results(op: OpId, count: usize) -> Row<Value, MAX_RESULTS>
     ensures { row_items result ≡ results_from op 0 count }
 {
     let mut values = Row::default();
+    // Stays: the index is what each value is made of.
     for index in 0..count {
         values.push(Value {
             definer: DefiningEntity::Op(op),
@@ -34,6 +35,7 @@ impl Store {
         self.tables.operation(op).map(|operation| operation.kind)
     }
 
+    // Stays: each reader below is one line, and reads another field.
     /// The note of an operation.
     pub fn note(&self, op: OpId) -> Option<u32>
         ensures { result ≡ option_map (λ x. x.note) (find_op (meaning self.now) op) }

@@ -21,6 +21,7 @@ impl Tables {
         ensures { result ≡ inside (view self.now) op block }
     {
         let mut at = block;
+        // Stays: no index; a climb ends after as many steps as there are operations.
         for _ in 0..self.operations.len() {
             let Some(owner) = self.owner_above(at) else {
                 return false;

@@ -29,6 +29,7 @@ fn link_operation(lists: &mut LinkedLists, point: OpInsertionPoint, op: usize)
     }
 }
 
+// Stays: one match for each of the two kinds of points, whose variants have names of their own.
 /// Links the block in the slot `block` at `point`.
 pub fn link_block(lists: &mut LinkedLists, point: BlockInsertionPoint, block: usize)
     requires node { block < nodes lists.old }

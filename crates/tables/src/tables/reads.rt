@@ -20,6 +20,7 @@ impl Tables {
         self.operations.get(op.slot, op.generation)
     }
 
+    // Stays: three readers of three tables, each one line; the identities are three types.
     /// A live block.
     pub fn basic_block(&self, block: BlockId) -> Option<&BasicBlock>
         ensures { option_map (λ x. view_block x.now) result ≡ find_block (view self.now) block }
@@ -34,6 +35,7 @@ impl Tables {
         self.regions.get(region.slot, region.generation)
     }
 
+    // Stays: total, as the definitions are, with generation 0 where nothing lives; what is linked lives.
     /// The identity of the region that lives in `slot`.
     pub fn region_id(&self, slot: usize) -> RegionId
         ensures { result ≡ region_id (view self.now) slot }
