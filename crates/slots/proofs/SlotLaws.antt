@@ -1,10 +1,10 @@
 -- Slots, and the cells that they are.
-use Rattle.std.proofs.Common.{◌≡◌, ℕ, suc, ◌+◌, ◌<◌, ◌≤◌, Bool, true, false, cond, not, ltb, List, [], ◌∷◌, map, length, get_or, filter, position, Some, None, Option, MatchOption, sym, refl, ap, ◌∙◌, inl, inr, arith}
+use Rattle.std.proofs.Common.{◌≡◌, ℕ, zero, replicate, suc, ◌+◌, ◌<◌, ◌≤◌, Bool, true, false, cond, not, ltb, List, [], ◌∷◌, map, length, get_or, filter, position, Some, None, Option, MatchOption, sym, refl, ap, ◌∙◌, inl, inr, arith}
 use Rattle.std.specs.List.{position_or_len}
 use Rattle.std.proofs.lemmas.Bool.{cases_lt, lt-ltb}
 use Rattle.std.proofs.lemmas.List.Quantifiers.{position-Some}
 use Rattle.std.proofs.lemmas.List.{get_or-map, get_or_past, length-map}
-use Rattle.slots.specs.Cells.{Spent, cell_at, is_free, is_live, frees, live_count, cell_of}
+use Rattle.slots.specs.Cells.{Free, Spent, cell_at, is_free, is_live, frees, live_count, cell_of}
 use Rattle.slots.specs.declared.table.Slot.{Slot}
 use Rattle.slots.specs.declared.table.Slot.TheVariants as slot
 
@@ -49,3 +49,8 @@ module _ {X : Type 0} where
   free_place xs (Some i) e =
       let p = position-Some (λ (s : Slot X). is_free (cell_of s)) xs i slot.Spent (sym e) in
       ap is_free (get_or-map cell_of xs i slot.Spent Spent p.0) ∙ p.1
+
+  -- slots that were never used
+  pub unused : (n : ℕ) (x : Slot X) → x ≡ slot.Free 0 → map cell_of (replicate n x) ≡ replicate n (Free 0)
+  unused zero x e = refl
+  unused (suc n) x e = ap (λ y. cell_of y ∷ map cell_of (replicate n x)) e ∙ ap (λ cs. Free 0 ∷ cs) (unused n x e)

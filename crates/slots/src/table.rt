@@ -79,11 +79,7 @@ impl<T: Copy> Table<T> {
     pub fn new(heap: Global, n: usize) -> Result<Table<T>, AllocError>
         ensures { IfOk result (λ t. cells t ≡ replicate n (Free 0)) }
     {
-        // Stays: of `vec![in heap; Slot::Free(0); n]` it is open, for every `T`, that a clone of `Free(0)` is `Free(0)`.
-        let mut slots = Vec::with_capacity(heap, n)?;
-        for _ in 0..n {
-            slots.push_reserved(Slot::Free(0));
-        }
+        let slots = vec![in heap; Slot::Free(0); n]?;
         Ok(Table { slots })
     }
 
