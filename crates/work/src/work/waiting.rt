@@ -28,6 +28,7 @@ pub fn count_fresh(states: &States, ops: &[OpId]) -> usize
     ensures value { result ≡ fresh_ops (marks_of (states_in states.now)) ops.now }
     ensures few { result ≤ length ops.now }
 {
+    // Stays: counted in a loop; inside a filter's closure it is not known that `i` is within `ops`.
     let mut count = 0;
     for (i, op) in ops.iter().enumerate() {
         if is_fresh(states, &ops[..i], *op) {
