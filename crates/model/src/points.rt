@@ -5,6 +5,7 @@ ghost use Rattle.model.specs.Points.{is_unset, is_block_unset};
 use crate::ids::{BlockId, OpId, RegionId};
 
 /// A place for an operation.
+// Stays: no Option around the places, since `Unset` is one of the points that the IR gives an operation.
 #[derive(Clone, Copy, Debug, PartialEq, Eq)]
 pub enum OpInsertionPoint {
     /// No place.

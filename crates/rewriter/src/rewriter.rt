@@ -8,6 +8,7 @@ use model::points::OpInsertionPoint;
 use model::refusal::Refusal;
 use walkers::Nodes;
 
+// Stays: the store is lent to each call, as a context is, since rewriters come and go over one store.
 /// Where it inserts, whom it tells, and memory for the nodes of a part that it erases.
 #[derive(Drop)]
 pub struct IRRewriter<L: RewriteListener> {

@@ -9,7 +9,7 @@ use crate::nodes::Nodes;
 use model::ids::IRNode;
 use tables::tables::Tables;
 
-// Stays: these call one another over the plain tables, a rule of the project; so each asks for `Sound` of them, and no type carries it.
+// Stays: as the walks, these go over the plain tables, and three of them call one another; so each asks for `Sound` of them, and no type carries it.
 /// Lists what lies in the operation in the slot `op`, then the operation.
 #[cycle(listing)]
 pub fn list_op(tables: &Tables, op: usize, nodes: &mut Nodes)

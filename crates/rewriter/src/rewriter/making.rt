@@ -16,7 +16,7 @@ use store::store::Store;
 use walkers::Nodes;
 
 impl<L: RewriteListener + Drop> IRRewriter<L> {
-    /// A rewriter that tells `listener`, with no insertion point. All memory is taken here. The laws of its calls hold.
+    /// A rewriter that tells `listener`, with no insertion point. The memory for the nodes of a part is taken here. The laws of its calls hold.
     pub fn new(heap: Global, listener: L) -> Result<IRRewriter<L>, AllocError>
         ensures fresh { IfOk result (λ s. (s.point ≡ Unset) × (s.listener ≡ listener)) }
         ensures lawful { LawfulCalls }

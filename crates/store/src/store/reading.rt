@@ -1,4 +1,4 @@
-//! What is read of operations.
+//! What is read of operations and of values.
 ghost use Rattle.std.specs.Prelude.{◌≡◌, ℕ, ◌≤◌};
 ghost use Rattle.row.specs.Items.{row_items};
 ghost use Rattle.std.specs.Option.{option_map};

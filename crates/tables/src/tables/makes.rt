@@ -1,4 +1,4 @@
-//! How operations are made.
+//! How operations and blocks are made.
 ghost use Rattle.std.specs.Prelude.{◌≡◌, ℕ, ◌+◌, ◌<◌, ◌≤◌, true, length, is_some, Some, None};
 ghost use Rattle.slots.specs.Cells.{cell_at, is_free, frees, cells};
 ghost use Rattle.row.specs.Items.{row_items};
