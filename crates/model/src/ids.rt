@@ -55,8 +55,9 @@ pub enum IRNode {
 }
 
 /// What a region keeps besides its blocks.
-#[derive(Clone, Copy)]
+#[derive(Clone, Copy, Debug, PartialEq, Eq)]
 pub struct Region {
+    // Stays: a mark of two values, as the definitions have it; its name says what `true` is.
     pub graph: bool,
     pub owner: OpId,
 }
