@@ -18,10 +18,10 @@ use Rattle.law.specs.Lists.{In}
 use Rattle.law.specs.Machine.{unmarked, queued, aside, asking, put, queue_all, Agree, kept, dues, during}
 use Rattle.law.proofs.Lists.{in_cases, in_left, in_right}
 use Rattle.law.proofs.Marks.{cases_op, op_dec, put_at, put_off, queue_in, queue_out, kept_live, kept_dead, in_dues}
-use Rattle.rules_next.specs.declared.interface.OpState.TheVariants as state
-use Rattle.rules_next.specs.declared.interface.OpEvent.TheVariants as happens
-use Rattle.rules_next.specs.declared.interface.StateEntry.{StateEntry}
-use Rattle.rules_next.specs.States.{moved}
+use Rattle.rules.specs.declared.interface.OpState.TheVariants as state
+use Rattle.rules.specs.declared.interface.OpEvent.TheVariants as happens
+use Rattle.rules.specs.declared.interface.StateEntry.{StateEntry}
+use Rattle.rules.specs.States.{moved}
 use Rattle.rules_next.specs.Meaning.{Meaning}
 use Rattle.rules_next.specs.Setting.{Env, real, inserted}
 use Rattle.rules_next.specs.Driver.{model_of, kept_state, noted, mark_of, marks_of, mark_all_erased}

@@ -11,11 +11,11 @@ use Rattle.law.specs.Machine.{Mark, unmarked, queued, asking, is_unmarked, met, 
 use Rattle.law.specs.Law.{queue_of, queues_of}
 use Rattle.law.proofs.Marks.{cases_op, put_at, put_off, newly_parts}
 use Rattle.law.proofs.Moments.{each_append, each_ask, queues_meet_all}
-use Rattle.rules_next.specs.declared.interface.OpEvent.TheVariants as happens
-use Rattle.rules_next.specs.declared.interface.StateEntry.{StateEntry}
+use Rattle.rules.specs.declared.interface.OpEvent.TheVariants as happens
+use Rattle.rules.specs.declared.interface.StateEntry.{StateEntry}
 use Rattle.rules_next.specs.declared.interface.Fault.{Fault}
 use Rattle.rules_next.specs.declared.interface.Fault.TheVariants as fault
-use Rattle.rules_next.specs.States.{moved}
+use Rattle.rules.specs.States.{moved}
 use Rattle.rules_next.specs.Meaning.{Meaning}
 use Rattle.rules_next.specs.Histories.{History, recorded}
 use Rattle.rules_next.specs.Setting.{Env, real, inserted, ops_among}

@@ -7,7 +7,7 @@ use Rattle.model.specs.declared.ids.IRNode.TheVariants as node
 use Rattle.calls.specs.declared.events.RecorderEvent.{RecorderEvent}
 use Rattle.law.specs.Machine.{Moment, newly}
 use Rattle.law.proofs.Lawful.{lawful}
-use Rattle.rules_next.specs.declared.interface.ConversionFault.{ConversionFault}
+use Rattle.rules.specs.declared.interface.ConversionFault.{ConversionFault}
 use Rattle.rules_next.specs.declared.interface.Fault.{Fault}
 use Rattle.rules_next.specs.declared.interface.Fault.TheVariants as fault
 use Rattle.rules_next.specs.declared.interface.Failure.{Failure}

@@ -7,9 +7,9 @@ use Rattle.calls.specs.World.{Pick, Reply, done, made, created, refused}
 use Rattle.calls.specs.World as calls
 use Rattle.law.specs.Lists.{member, then}
 use Rattle.law.specs.Machine.{asked, ask_along, rewrote}
-use Rattle.rules_next.specs.declared.interface.Phase.TheVariants as phase
-use Rattle.rules_next.specs.declared.interface.Fate.TheVariants as fate
-use Rattle.rules_next.specs.declared.interface.ConversionFault.{ConversionFault}
+use Rattle.rules.specs.declared.interface.Phase.TheVariants as phase
+use Rattle.rules.specs.declared.interface.Fate.TheVariants as fate
+use Rattle.rules.specs.declared.interface.ConversionFault.{ConversionFault}
 use Rattle.rules_next.specs.declared.interface.Fault.{Fault}
 use Rattle.rules_next.specs.declared.interface.Fault.TheVariants as fault
 use Rattle.rules_next.specs.declared.interface.Failure.{Failure}

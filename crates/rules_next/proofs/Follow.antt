@@ -12,9 +12,9 @@ use Rattle.law.specs.Machine.{Mark, queued, rewritten, Moment, rewrote, put, Agr
 use Rattle.law.specs.Machine as machine
 use Rattle.law.proofs.Marks.{cases_op, put_at, put_off, kept_live}
 use Rattle.law.proofs.Views.{same_state, step_to}
-use Rattle.rules_next.specs.declared.interface.OpState.TheVariants as state
-use Rattle.rules_next.specs.declared.interface.OpEvent.TheVariants as happens
-use Rattle.rules_next.specs.declared.interface.StateEntry.{StateEntry}
+use Rattle.rules.specs.declared.interface.OpState.TheVariants as state
+use Rattle.rules.specs.declared.interface.OpEvent.TheVariants as happens
+use Rattle.rules.specs.declared.interface.StateEntry.{StateEntry}
 use Rattle.rules_next.specs.Meaning.{Meaning}
 use Rattle.rules_next.specs.Setting.{Env, real, Good, Rewrites, inserted, ops_among}
 use Rattle.rules_next.specs.Driver.{Pending, World, Load, model_of, kept_state, noted, mark_of, marks_of, mark_all_erased, chain, linked, argument, shed}

@@ -16,7 +16,7 @@ use Rattle.law.specs.Law.{mets_of, ever_of}
 use Rattle.law.proofs.Moments.{mets_meet_all}
 use Rattle.law.proofs.Once.{good}
 use Rattle.law.proofs.Views.{same_state, count_begun}
-use Rattle.rules_next.specs.declared.interface.OpState.TheVariants as state
+use Rattle.rules.specs.declared.interface.OpState.TheVariants as state
 use Rattle.rules_next.specs.Meaning.{Meaning}
 use Rattle.rules_next.specs.Setting.{real, Good, ops_among}
 use Rattle.rules_next.specs.Driver.{Pending, World, Room, model_of, kept_state, mark_of, marks_of, argument, shed}

@@ -11,12 +11,12 @@ use Rattle.model.proofs.Past.{past_not_node}
 use Rattle.calls.specs.declared.events.RecorderEvent.{RecorderEvent}
 use Rattle.calls.specs.declared.events.RecorderEvent.TheVariants as event
 use Rattle.law.specs.Machine.{unmarked, queued, asking}
-use Rattle.rules_next.specs.declared.interface.OpState.{OpState}
-use Rattle.rules_next.specs.declared.interface.OpState.TheVariants as state
-use Rattle.rules_next.specs.declared.interface.OpEvent.{OpEvent}
-use Rattle.rules_next.specs.declared.interface.OpEvent.TheVariants as happens
-use Rattle.rules_next.specs.declared.interface.StateEntry.{StateEntry}
-use Rattle.rules_next.specs.States.{moved}
+use Rattle.rules.specs.declared.interface.OpState.{OpState}
+use Rattle.rules.specs.declared.interface.OpState.TheVariants as state
+use Rattle.rules.specs.declared.interface.OpEvent.{OpEvent}
+use Rattle.rules.specs.declared.interface.OpEvent.TheVariants as happens
+use Rattle.rules.specs.declared.interface.StateEntry.{StateEntry}
+use Rattle.rules.specs.States.{moved}
 use Rattle.rules_next.specs.Driver.{of_generation, kept_state, state_of, notable, noted, mark_of, marks_of, is_queued, mark_erased, mark_all_erased}
 use Rattle.rules_next.proofs.Recorded.{Stands, AllStand}
 

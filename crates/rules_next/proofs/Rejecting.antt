@@ -15,13 +15,13 @@ use Rattle.law.proofs.Lists.{in_keep, none_some}
 use Rattle.law.proofs.Chains.{member_end}
 use Rattle.law.proofs.Circle.{first_due_lem}
 use Rattle.law.proofs.Moments.{wait_rewrites}
-use Rattle.rules_next.specs.declared.interface.Fate.{Fate}
-use Rattle.rules_next.specs.declared.interface.Fate.TheVariants as fate
-use Rattle.rules_next.specs.declared.interface.TrailRecord.{TrailRecord}
-use Rattle.rules_next.specs.declared.interface.IRStatus.{IRStatus}
-use Rattle.rules_next.specs.declared.interface.Answer.{Answer}
-use Rattle.rules_next.specs.declared.interface.Answer.TheVariants as answer
-use Rattle.rules_next.specs.declared.interface.ConversionFault.{ConversionFault}
+use Rattle.rules.specs.declared.interface.Fate.{Fate}
+use Rattle.rules.specs.declared.interface.Fate.TheVariants as fate
+use Rattle.rules.specs.declared.interface.TrailRecord.{TrailRecord}
+use Rattle.rules.specs.declared.interface.IRStatus.{IRStatus}
+use Rattle.rules.specs.declared.interface.Answer.{Answer}
+use Rattle.rules.specs.declared.interface.Answer.TheVariants as answer
+use Rattle.rules.specs.declared.interface.ConversionFault.{ConversionFault}
 use Rattle.rules_next.specs.declared.interface.Fault.TheVariants as fault
 use Rattle.rules_next.specs.declared.interface.Failure.{Failure}
 use Rattle.rules_next.specs.declared.interface.Report.{Report}

@@ -11,8 +11,8 @@ use Rattle.law.specs.Law.{rewrites_of, mets_of}
 use Rattle.law.proofs.Moments.{wait_rewrites, rewrite_mets}
 use Rattle.law.proofs.Once.{good}
 use Rattle.law.proofs.Lawful.{lawful}
-use Rattle.rules_next.specs.declared.interface.IRStatus.{IRStatus}
-use Rattle.rules_next.specs.declared.interface.Answer.TheVariants as answer
+use Rattle.rules.specs.declared.interface.IRStatus.{IRStatus}
+use Rattle.rules.specs.declared.interface.Answer.TheVariants as answer
 use Rattle.rules_next.specs.declared.interface.Failure.{Failure}
 use Rattle.rules_next.specs.declared.interface.Report.{Report}
 use Rattle.rules_next.specs.Meaning.{Meaning}

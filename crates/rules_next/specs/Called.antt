@@ -2,7 +2,7 @@
 use Rattle.std.specs.Prelude.{◌≡◌, ℕ, true, false, List, ◌++◌, Some, None, Ok, Err, Option}
 use Rattle.model.specs.declared.ids.OpId.{OpId}
 use Rattle.law.specs.Machine.{Moment}
-use Rattle.rules_next.specs.declared.interface.Phase.TheVariants as phase
+use Rattle.rules.specs.declared.interface.Phase.TheVariants as phase
 use Rattle.rules_next.specs.declared.interface.Failure.{Failure}
 use Rattle.rules_next.specs.declared.interface.Report.{Report}
 use Rattle.rules_next.specs.Meaning.{Meaning}

@@ -11,16 +11,16 @@ use Rattle.model.specs.Model.{Model, find_op, is_value, put}
 use Rattle.calls.specs.declared.events.RecorderEvent.{RecorderEvent}
 use Rattle.calls.specs.declared.events.RecorderEvent.TheVariants as event
 use Rattle.law.specs.Machine.{Mark, unmarked, queued, rewritten, aside, Moment, met, queues, ask, newly}
-use Rattle.rules_next.specs.declared.interface.Phase.{Phase}
+use Rattle.rules.specs.declared.interface.Phase.{Phase}
 use Rattle.rules_next.specs.declared.interface.Counts.{Counts}
-use Rattle.rules_next.specs.declared.interface.OpState.{OpState}
-use Rattle.rules_next.specs.declared.interface.OpState.TheVariants as state
-use Rattle.rules_next.specs.declared.interface.OpEvent.{OpEvent}
-use Rattle.rules_next.specs.declared.interface.OpEvent.TheVariants as happens
-use Rattle.rules_next.specs.declared.interface.StateEntry.{StateEntry}
+use Rattle.rules.specs.declared.interface.OpState.{OpState}
+use Rattle.rules.specs.declared.interface.OpState.TheVariants as state
+use Rattle.rules.specs.declared.interface.OpEvent.{OpEvent}
+use Rattle.rules.specs.declared.interface.OpEvent.TheVariants as happens
+use Rattle.rules.specs.declared.interface.StateEntry.{StateEntry}
 use Rattle.rules_next.specs.declared.interface.Fault.{Fault}
 use Rattle.rules_next.specs.declared.interface.Fault.TheVariants as fault
-use Rattle.rules_next.specs.States.{moved}
+use Rattle.rules.specs.States.{moved}
 use Rattle.rules_next.specs.Meaning.{Meaning}
 use Rattle.rules_next.specs.Histories.{History, recorded, live_only}
 use Rattle.rules_next.specs.Setting.{Env, real, same_op, inserted}

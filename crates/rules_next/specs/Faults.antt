@@ -4,8 +4,8 @@ use Rattle.model.specs.declared.refusal.Refusal.{Refusal}
 use Rattle.model.specs.declared.refusal.Refusal.TheVariants.{NoSlot, TooMany, NotLive, PointUnset, InBlock, NoBlock, Inside, CountsDiffer, StillUsed, OwnValue, RecordsFull}
 use Rattle.rules_next.specs.declared.interface.Fault.{Fault}
 use Rattle.rules_next.specs.declared.interface.Fault.TheVariants as fault
-use Rattle.rules_next.specs.declared.interface.Layer.{Layer}
-use Rattle.rules_next.specs.declared.interface.Layer.TheVariants as layer
+use Rattle.rules.specs.declared.interface.Layer.{Layer}
+use Rattle.rules.specs.declared.interface.Layer.TheVariants as layer
 
 abbrev pub number_of : Fault → ℕ
 number_of fault.NotLive = 3

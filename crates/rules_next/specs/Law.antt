@@ -10,8 +10,8 @@ use Rattle.calls.specs.After.{after}
 use Rattle.law.specs.Lists.{In, Apart, member}
 use Rattle.law.specs.Machine.{due}
 use Rattle.law.specs.Law.{rewrites_of, mets_of, ever_of, last_answer}
-use Rattle.rules_next.specs.declared.interface.IRStatus.{IRStatus}
-use Rattle.rules_next.specs.declared.interface.Answer.TheVariants as answer
+use Rattle.rules.specs.declared.interface.IRStatus.{IRStatus}
+use Rattle.rules.specs.declared.interface.Answer.TheVariants as answer
 use Rattle.rules_next.specs.declared.interface.Fault.TheVariants as fault
 use Rattle.rules_next.specs.declared.interface.Failure.{Failure}
 use Rattle.rules_next.specs.declared.interface.Counts.{Counts}

@@ -4,7 +4,7 @@ use Rattle.model.specs.declared.ids.OpId.{OpId}
 use Rattle.model.specs.Model.{Model}
 use Rattle.calls.specs.World.{World, Call, Pick}
 use Rattle.calls.specs.After.{after, CouldAll}
-use Rattle.rules_next.specs.declared.interface.ConversionFault.{ConversionFault}
+use Rattle.rules.specs.declared.interface.ConversionFault.{ConversionFault}
 use Rattle.rules_next.specs.Histories.{History}
 
 -- what is answered about a type: a type or a fault, and the conversion's next value

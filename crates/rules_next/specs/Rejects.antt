@@ -5,9 +5,9 @@ use Rattle.calls.specs.World.{Pick}
 use Rattle.law.specs.Lists.{In, Follows}
 use Rattle.law.specs.Machine.{asked}
 use Rattle.law.specs.Law.{rewrites_of}
-use Rattle.rules_next.specs.declared.interface.Fate.TheVariants as fate
-use Rattle.rules_next.specs.declared.interface.IRStatus.{IRStatus}
-use Rattle.rules_next.specs.declared.interface.Answer.TheVariants as answer
+use Rattle.rules.specs.declared.interface.Fate.TheVariants as fate
+use Rattle.rules.specs.declared.interface.IRStatus.{IRStatus}
+use Rattle.rules.specs.declared.interface.Answer.TheVariants as answer
 use Rattle.rules_next.specs.declared.interface.Fault.TheVariants as fault
 use Rattle.rules_next.specs.declared.interface.Counts.{Counts}
 use Rattle.rules_next.specs.declared.interface.Report.{Report}

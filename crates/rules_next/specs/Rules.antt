@@ -11,20 +11,20 @@ use Rattle.calls.specs.Perform.{Outcome, perform}
 use Rattle.calls.specs.World as calls
 use Rattle.law.specs.Lists.{member}
 use Rattle.law.specs.Machine.{Moment, asked, rewrote, dues, first_due, fresh, ask_all, ask_along, queue_each}
-use Rattle.rules_next.specs.declared.interface.Phase.{Phase}
-use Rattle.rules_next.specs.declared.interface.Phase.TheVariants as phase
-use Rattle.rules_next.specs.declared.interface.OpEvent.{OpEvent}
-use Rattle.rules_next.specs.declared.interface.OpEvent.TheVariants as happens
-use Rattle.rules_next.specs.declared.interface.StateEntry.{StateEntry}
-use Rattle.rules_next.specs.declared.interface.OpState.TheVariants as state
-use Rattle.rules_next.specs.declared.interface.Fate.{Fate}
-use Rattle.rules_next.specs.declared.interface.Fate.TheVariants as fate
-use Rattle.rules_next.specs.declared.interface.TrailRecord.{TrailRecord}
-use Rattle.rules_next.specs.declared.interface.IRStatus.{IRStatus}
-use Rattle.rules_next.specs.declared.interface.IRStatus.TheVariants as status
-use Rattle.rules_next.specs.declared.interface.Answer.{Answer}
-use Rattle.rules_next.specs.declared.interface.Answer.TheVariants as answer
-use Rattle.rules_next.specs.declared.interface.ConversionFault.{ConversionFault}
+use Rattle.rules.specs.declared.interface.Phase.{Phase}
+use Rattle.rules.specs.declared.interface.Phase.TheVariants as phase
+use Rattle.rules.specs.declared.interface.OpEvent.{OpEvent}
+use Rattle.rules.specs.declared.interface.OpEvent.TheVariants as happens
+use Rattle.rules.specs.declared.interface.StateEntry.{StateEntry}
+use Rattle.rules.specs.declared.interface.OpState.TheVariants as state
+use Rattle.rules.specs.declared.interface.Fate.{Fate}
+use Rattle.rules.specs.declared.interface.Fate.TheVariants as fate
+use Rattle.rules.specs.declared.interface.TrailRecord.{TrailRecord}
+use Rattle.rules.specs.declared.interface.IRStatus.{IRStatus}
+use Rattle.rules.specs.declared.interface.IRStatus.TheVariants as status
+use Rattle.rules.specs.declared.interface.Answer.{Answer}
+use Rattle.rules.specs.declared.interface.Answer.TheVariants as answer
+use Rattle.rules.specs.declared.interface.ConversionFault.{ConversionFault}
 use Rattle.rules_next.specs.declared.interface.Fault.{Fault}
 use Rattle.rules_next.specs.declared.interface.Fault.TheVariants as fault
 use Rattle.rules_next.specs.declared.interface.Failure.{Failure}
