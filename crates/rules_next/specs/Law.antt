@@ -16,9 +16,12 @@ use Rattle.rules_next.specs.declared.interface.Fault.TheVariants as fault
 use Rattle.rules_next.specs.declared.interface.Failure.{Failure}
 use Rattle.rules_next.specs.declared.interface.Counts.{Counts}
 use Rattle.rules_next.specs.declared.interface.Report.{Report}
-use Rattle.rules_next.specs.Meaning.{Meaning, Plan}
-use Rattle.rules_next.specs.Setting.{real, Good, aimed, definers_in, inserted, ops_among}
-use Rattle.rules_next.specs.Driver.{World, Room, model_of, marks_of}
+use Rattle.rules.specs.Meaning.{Plan}
+use Rattle.rules_next.specs.Meaning.{Meaning}
+use Rattle.rules.specs.Setting.{Good, aimed, definers_in, inserted, ops_among}
+use Rattle.rules_next.specs.Setting.{real}
+use Rattle.rules.specs.Driver.{Room, model_of, marks_of}
+use Rattle.rules_next.specs.Driver.{World}
 use Rattle.rules_next.specs.Called.{Past, Called, Amid}
 use Rattle.rules_next.specs.Rules.{Told, Step, Fails, Ran, Begun, Takes, state_in, convertible, first_one, operand_types, at_op, clear_env}
 

@@ -12,7 +12,8 @@ use Rattle.rules_next.specs.declared.interface.Fault.TheVariants as fault
 use Rattle.rules_next.specs.declared.interface.Counts.{Counts}
 use Rattle.rules_next.specs.declared.interface.Report.{Report}
 use Rattle.rules_next.specs.Meaning.{Meaning}
-use Rattle.rules_next.specs.Driver.{World, Room, model_of}
+use Rattle.rules.specs.Driver.{Room, model_of}
+use Rattle.rules_next.specs.Driver.{World}
 use Rattle.rules_next.specs.Rules.{Told, Step, Fails, Ran, Takes, convertible, first_one, one_record, at_op, has_work}
 use Rattle.rules_next.specs.Law.{Moves, NoneDue, Tries, plan_of, left_by}
 

@@ -5,7 +5,7 @@ ghost use Rattle.store.specs.Meaning.{meaning as model};
 ghost use Rattle.rules.specs.declared.interface.OpEvent.TheVariants.{Queued};
 ghost use Rattle.rules_next.specs.declared.interface.Fault.TheVariants.{Full};
 ghost use Rattle.law.specs.Machine.{is_unmarked};
-ghost use Rattle.rules_next.specs.Driver.{marks_of};
+ghost use Rattle.rules.specs.Driver.{marks_of};
 ghost use Rattle.rules_next.specs.Rules.{noted_all};
 ghost use Rattle.states.specs.States.{states_in};
 ghost use Rattle.work.specs.Waiting.{among, fresh_ops};
