@@ -7,8 +7,8 @@ use Rattle.rewriter.specs.declared.listener.Recorder.{Recorder}
 use Rattle.rewriter.specs.declared.rewriter.IRRewriter.{IRRewriter}
 use Rattle.rewriter.specs.Recorded.{recorded}
 use Rattle.rewriter.specs.Seen.{world}
-use Rattle.rules_next.specs.declared.interface.ConversionFault.{ConversionFault}
-use Rattle.rules_next.specs.Histories.{History}
+use Rattle.rules.specs.declared.interface.ConversionFault.{ConversionFault}
+use Rattle.rules.specs.Histories.{History}
 use Rattle.rules_next.specs.Meaning.{Meaning, Rewrote}
 
 -- the store, and the rewriter with its insertion point and its records

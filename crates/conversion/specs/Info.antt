@@ -1,7 +1,7 @@
 -- What the operands had been, and what a look-up finds.
 use Rattle.std.specs.Prelude.{ℕ, ◌/◌, cond, List, [], ◌∷◌, Some, None, Option, ◌==◌}
 use Rattle.row.specs.Items.{row_items}
-use Rattle.rules_next.specs.Histories.{History}
+use Rattle.rules.specs.Histories.{History}
 use Rattle.histories.specs.Kept.{histories}
 use Rattle.conversion.specs.declared.operands_info.OperandsInfo.{OperandsInfo}
 

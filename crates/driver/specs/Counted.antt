@@ -1,7 +1,7 @@
 -- What is counted when an entry has been taken.
 use Rattle.std.specs.Prelude.{◌≡◌, suc}
 use Rattle.rules_next.specs.declared.interface.Counts.{Counts}
-use Rattle.rules_next.specs.declared.interface.Phase.{Phase}
+use Rattle.rules.specs.declared.interface.Phase.{Phase}
 use Rattle.driver.specs.declared.driver.Driver.{Driver}
 
 -- From d to d' one step and these counts were added, and the phase is p; the rest is as it was.

@@ -1,6 +1,6 @@
 -- A new driver.
 use Rattle.std.specs.Prelude.{◌≡◌, false}
-use Rattle.rules_next.specs.declared.interface.Phase.TheVariants as phase
+use Rattle.rules.specs.declared.interface.Phase.TheVariants as phase
 use Rattle.rules_next.specs.Rules.{no_counts}
 use Rattle.driver.specs.declared.driver.Driver.{Driver}
 

@@ -5,10 +5,11 @@ use Rattle.model.specs.declared.ids.OpId.{OpId}
 use Rattle.model.specs.declared.ids.BlockId.{BlockId}
 use Rattle.store.specs.declared.store.Store.{Store}
 use Rattle.conversion.specs.Asked.{seen}
-use Rattle.rules_next.specs.declared.interface.TrailRecord.{TrailRecord}
+use Rattle.rules.specs.declared.interface.TrailRecord.{TrailRecord}
 use Rattle.rules_next.specs.declared.interface.Failure.{Failure}
 use Rattle.rules_next.specs.Meaning.{Meaning}
-use Rattle.rules_next.specs.Driver.{World, Room}
+use Rattle.rules.specs.Driver.{Room}
+use Rattle.rules_next.specs.Driver.{World}
 use Rattle.rules_next.specs.Rules.{Told, Step, Fails}
 use Rattle.histories.specs.Many.{kept}
 use Rattle.work.specs.Work.{memory_of}

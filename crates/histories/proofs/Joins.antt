@@ -3,7 +3,7 @@ use Rattle.std.proofs.Common.{ℕ, ◌+◌, ◌≤◌, Bool, not, eqb, List, len
 use Rattle.std.proofs.lemmas.List.Filters.{length-filter_both}
 use Rattle.std.proofs.lemmas.List.{length_push}
 use Rattle.model.specs.Erasing.{less}
-use Rattle.rules_next.specs.Histories.{add_type}
+use Rattle.rules.specs.Histories.{add_type}
 
 -- as many stay at most
 pub length_kept : {X : Type 0} (f : X → Bool) (xs : List X) → length (filter f xs) ≤ length xs

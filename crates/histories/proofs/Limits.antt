@@ -6,7 +6,7 @@ use Rattle.row.specs.Items.{row_items}
 use Rattle.row.proofs.Rows.{long}
 use Rattle.model.specs.declared.ids.Value.{Value}
 use Rattle.model.specs.Calls.{same_value}
-use Rattle.rules_next.specs.Histories.{History, types_had, put_types, drop_types, within_limits}
+use Rattle.rules.specs.Histories.{History, types_had, put_types, drop_types, within_limits}
 use Rattle.histories.specs.declared.history.TypeHistory.{TypeHistory}
 use Rattle.histories.specs.Kept.{histories, place_of, is_kept, size_with}
 use Rattle.histories.proofs.Puts.{put_there, put_nowhere}

@@ -7,7 +7,7 @@ use Rattle.std.proofs.lemmas.List.Recursion.{is_position_or_len}
 use Rattle.model.specs.declared.ids.Value.{Value}
 use Rattle.model.specs.Calls.{same_value}
 use Rattle.model.specs.contracts.ids.ValuePartialEq.TheImpl.{ghosts}
-use Rattle.rules_next.specs.Histories.{History, types_had}
+use Rattle.rules.specs.Histories.{History, types_had}
 use Rattle.histories.specs.declared.history.TypeHistory.{TypeHistory}
 use Rattle.histories.specs.Kept.{history, histories, place_of, is_kept, place_in}
 use Rattle.model.proofs.Equal.{value_eq}

@@ -5,7 +5,7 @@ use Rattle.row.specs.declared.row.Row.{Row}
 use Rattle.row.specs.Items.{row_items}
 use Rattle.model.specs.declared.ids.Value.{Value}
 use Rattle.model.specs.Calls.{same_value}
-use Rattle.rules_next.specs.Histories.{History, put_types}
+use Rattle.rules.specs.Histories.{History, put_types}
 use Rattle.histories.specs.declared.history.TypeHistory.{TypeHistory}
 use Rattle.histories.specs.Kept.{history, histories, place_of, entries_of, place_in}
 use Rattle.histories.proofs.Places.{place_read, place_none}

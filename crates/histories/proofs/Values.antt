@@ -5,7 +5,7 @@ use Rattle.model.specs.declared.ids.DefiningEntity.{DefiningEntity}
 use Rattle.model.specs.declared.ids.DefiningEntity.TheVariants as definer
 use Rattle.model.specs.declared.ids.Value.{Value}
 use Rattle.model.specs.Calls.{same_definer, same_value}
-use Rattle.rules_next.proofs.Reals.{same_is, same_self}
+use Rattle.rules.proofs.Reals.{same_is, same_self}
 
 definer_self : (d : DefiningEntity) → same_definer d d ≡ true
 definer_self (definer.Op o) = same_self o

@@ -3,7 +3,7 @@ use Rattle.std.specs.Prelude.{ℕ, suc, ◌+◌, Bool, cond, List, [], ◌∷◌
 use Rattle.model.specs.declared.ids.Value.{Value}
 use Rattle.model.specs.Calls.{same_value}
 use Rattle.row.specs.Items.{row_items}
-use Rattle.rules_next.specs.Histories.{History}
+use Rattle.rules.specs.Histories.{History}
 use Rattle.histories.specs.declared.history.TypeHistory.{TypeHistory}
 
 abbrev pub history : TypeHistory → History

@@ -1,6 +1,6 @@
 -- The histories that are kept.
 use Rattle.std.specs.Prelude.{List, vec_items}
-use Rattle.rules_next.specs.Histories.{History}
+use Rattle.rules.specs.Histories.{History}
 use Rattle.histories.specs.declared.histories.Histories.{Histories}
 use Rattle.histories.specs.Kept.{histories}
 

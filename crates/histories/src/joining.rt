@@ -2,7 +2,7 @@
 ghost use Rattle.std.specs.Prelude.{◌≡◌, ◌+◌, ◌<◌, ◌≤◌, length, nat_eq};
 ghost use Rattle.row.specs.Items.{row_items};
 ghost use Rattle.model.specs.Erasing.{less};
-ghost use Rattle.rules_next.specs.Histories.{add_type, add_types};
+ghost use Rattle.rules.specs.Histories.{add_type, add_types};
 
 use row::Row;
 

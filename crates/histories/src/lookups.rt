@@ -1,6 +1,6 @@
 //! Finding the history of a value.
 ghost use Rattle.std.specs.Prelude.{◌≡◌, ◌<◌, length, IfSome};
-ghost use Rattle.rules_next.specs.Histories.{types_had};
+ghost use Rattle.rules.specs.Histories.{types_had};
 ghost use Rattle.histories.specs.Kept.{histories, place_in};
 
 use crate::history::TypeHistory;

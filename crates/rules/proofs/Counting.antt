@@ -24,7 +24,7 @@ pub new_all : (os : List OpId) → new_ones None os ≡ length os
 new_all [] = refl
 new_all (o ∷ os) = omega (arith, new_all os)
 
-other_op : (x y : OpId) → (x ≡ y → ⊥) → same_op x y ≡ false
+pub other_op : (x y : OpId) → (x ≡ y → ⊥) → same_op x y ≡ false
 other_op x y ne = elim (cases_Bool (same_op x y)) [ inl h ↦ absurd (ne (same_is x y h)) | inr h ↦ h ]
 
 module _ {C : Type 0} (M : Meaning C) where

@@ -38,13 +38,13 @@ given_later m n o l (inr h) = inr (l.gone (node.Operation o) h)
 pub known_later : (m n : Model) (ks : ℕ → StateEntry) → Later m n → Known m ks → Known n ks
 known_later m n ks l k y = elim (k y) [ inl g ↦ inl (given_later m n y l g) | inr u ↦ inr u ]
 
-same_op : (o y : OpId) → o.slot ≡ y.slot → o.generation ≡ y.generation → o ≡ y
+pub same_op : (o y : OpId) → o.slot ≡ y.slot → o.generation ≡ y.generation → o ≡ y
 same_op o y s g = λ i. record { slot = s i; generation = g i }
 
-of_same : (k : StateEntry) (g : ℕ) → k.generation ≡ g → of_generation k g ≡ k.state
+pub of_same : (k : StateEntry) (g : ℕ) → k.generation ≡ g → of_generation k g ≡ k.state
 of_same k g e = ap (λ b. cond b k.state state.Unmarked) (eq-eqb k.generation g e)
 
-of_other : (k : StateEntry) (g : ℕ) → (k.generation ≡ g → ⊥) → of_generation k g ≡ state.Unmarked
+pub of_other : (k : StateEntry) (g : ℕ) → (k.generation ≡ g → ⊥) → of_generation k g ≡ state.Unmarked
 of_other k g ne = ap (λ b. cond b k.state state.Unmarked) (ne_eqb k.generation g ne)
 
 module _ (m : Model) (ks : ℕ → StateEntry) (o : OpId) (e : OpEvent) where

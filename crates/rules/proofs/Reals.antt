@@ -49,11 +49,11 @@ one_definer m (definer.Op o) = at (in_graph m o.slot)
     at false = omega arith
 one_definer m (definer.Block b) = omega arith
 
-few_definers : (m : Model) (vs : List Value) → length (definers_of m vs) ≤ length vs
+pub few_definers : (m : Model) (vs : List Value) → length (definers_of m vs) ≤ length vs
 few_definers m [] = omega arith
 few_definers m (v ∷ vs) = omega (arith, one_definer m v.definer, few_definers m vs, length-append (definer_of m v.definer) (definers_of m vs))
 
-few_under : (c : Cell Operation) (g : ℕ) → FewIn c → length (operands_of (under c g)) ≤ 8
+pub few_under : (c : Cell Operation) (g : ℕ) → FewIn c → length (operands_of (under c g)) ≤ 8
 few_under (Free k) g h = omega arith
 few_under (Live k x) g h = at (eqb k g)
   where
@@ -67,7 +67,7 @@ skips : (y : OpId) (b : Bool) (n : IRNode) (ns : List IRNode) (P : Type 0) → o
 skips y true n ns P e k i = k i
 skips y false n ns P e k i = k (subst (λ os. In y (os ++ ops_among ns)) e i)
 
-inserted_among : (y : OpId) (all es : List RecorderEvent) → In y (ops_among (flat_map (inserted_by all) es)) → Among (event.InsertedOperation y) es
+pub inserted_among : (y : OpId) (all es : List RecorderEvent) → In y (ops_among (flat_map (inserted_by all) es)) → Among (event.InsertedOperation y) es
 inserted_among y all [] i = absurd i
 inserted_among y all (event.InsertedOperation o ∷ es) (inl q) = inl (ap event.InsertedOperation q)
 inserted_among y all (event.InsertedOperation o ∷ es) (inr i) = inr (inserted_among y all es i)

@@ -1,4 +1,5 @@
 //! The rules of the driver: what it keeps, what a conversion means to it, and what each step does. They stand in specs/.
+// The edition that landed: it stands until the driver carries the theorem whole, then it goes. `rules_next` is the rules as they are to become, and takes from here all that both editions share.
 
 #![tactic(auto)]
 

@@ -1,46 +1,31 @@
 -- What the rules note of operations agrees with what the law says of their marks.
-use Rattle.std.proofs.Common.{◌≡◌, ℕ, Bool, true, false, cond, eqb, ◌⊎◌, List, [], ◌∷◌, ◌++◌, is_some, Some, None, Option, sym, refl, ap, ◌∙◌, subst, inl, inr, append-nil}
+use Rattle.std.proofs.Common.{◌≡◌, ℕ, true, ◌⊎◌, List, [], ◌∷◌, ◌++◌, is_some, sym, refl, ap, ◌∙◌, subst, inl, inr}
 use Rattle.std.proofs.lemmas.Bool.{cases_Bool, both_ways}
 use Rattle.model.specs.declared.ids.OpId.{OpId}
 use Rattle.model.specs.declared.ids.Value.{Value}
 use Rattle.model.specs.declared.ids.IRNode.TheVariants as node
-use Rattle.model.specs.declared.refusal.Refusal.{Refusal}
 use Rattle.model.specs.Model.{Model, find_op}
 use Rattle.model.specs.Later.{Later}
 use Rattle.model.proofs.Past.{past_not_node}
 use Rattle.calls.specs.declared.events.RecorderEvent.{RecorderEvent}
 use Rattle.calls.specs.declared.events.RecorderEvent.TheVariants as event
-use Rattle.calls.specs.World as calls
-use Rattle.calls.specs.World.{Pick, set_type}
-use Rattle.calls.specs.Perform.{perform, settle, type_now}
-use Rattle.calls.specs.After.{answer}
 use Rattle.law.specs.Lists.{In}
 use Rattle.law.specs.Machine.{unmarked, queued, aside, asking, put, queue_all, Agree, kept, dues, during}
 use Rattle.law.proofs.Lists.{in_cases, in_left, in_right}
 use Rattle.law.proofs.Marks.{cases_op, op_dec, put_at, put_off, queue_in, queue_out, kept_live, kept_dead, in_dues}
-use Rattle.rules_next.specs.declared.interface.OpState.TheVariants as state
-use Rattle.rules_next.specs.declared.interface.OpEvent.TheVariants as happens
-use Rattle.rules_next.specs.declared.interface.StateEntry.{StateEntry}
-use Rattle.rules_next.specs.States.{moved}
+use Rattle.rules.specs.declared.interface.OpState.TheVariants as state
+use Rattle.rules.specs.declared.interface.OpEvent.TheVariants as happens
+use Rattle.rules.specs.declared.interface.StateEntry.{StateEntry}
+use Rattle.rules.specs.States.{moved}
 use Rattle.rules_next.specs.Meaning.{Meaning}
-use Rattle.rules_next.specs.Setting.{Env, real, inserted}
-use Rattle.rules_next.specs.Driver.{model_of, kept_state, noted, mark_of, marks_of, mark_all_erased}
+use Rattle.rules.specs.Setting.{Env, inserted}
+use Rattle.rules_next.specs.Setting.{real}
+use Rattle.rules.specs.Driver.{model_of, kept_state, mark_of, marks_of}
+use Rattle.rules_next.specs.Driver.{noted, mark_all_erased}
 use Rattle.rules_next.specs.Rules.{noted_all}
 use Rattle.rules_next.proofs.Reals.{laws}
-use Rattle.rules_next.proofs.Marking.{Alive, Known, noted_at, noted_off, known_noted, asking_queued}
-
--- a call that gives a value a type makes one record at most
-pub quiet_records : (w : calls.World) (v : Value) (t : ℕ) (k : Pick) → w.records ≡ []
-    → ((perform true w (set_type v t) k).world.records ≡ []) ⊎ ((perform true w (set_type v t) k).world.records ≡ event.ValueTypeChanged v (type_now w.model v) t ∷ [])
-quiet_records w v t k c = at (answer true w (set_type v t) k)
-  where
-    go : (b : Bool) → (w.records ++ cond b [] (event.ValueTypeChanged v (type_now w.model v) t ∷ []) ≡ []) ⊎ (w.records ++ cond b [] (event.ValueTypeChanged v (type_now w.model v) t ∷ []) ≡ event.ValueTypeChanged v (type_now w.model v) t ∷ [])
-    go true = inl (append-nil w.records ∙ c)
-    go false = inr (ap (λ rs. rs ++ event.ValueTypeChanged v (type_now w.model v) t ∷ []) c)
-
-    at : (q : Option Refusal) → ((settle true w (set_type v t) k q).world.records ≡ []) ⊎ ((settle true w (set_type v t) k q).world.records ≡ event.ValueTypeChanged v (type_now w.model v) t ∷ [])
-    at (Some e) = inl c
-    at None = go (eqb (type_now w.model v) t)
+use Rattle.rules.proofs.Marking.{Alive, Known, asking_queued}
+use Rattle.rules_next.proofs.Marking.{noted_at, noted_off, known_noted}
 
 pub quiet_inserted : (es : List RecorderEvent) (v : Value) (a b : ℕ) → (es ≡ []) ⊎ (es ≡ event.ValueTypeChanged v a b ∷ []) → inserted es ≡ []
 quiet_inserted es v a b (inl q) = ap inserted q

@@ -11,22 +11,21 @@ use Rattle.law.specs.Machine.{Mark, unmarked, queued, asking, is_unmarked, met, 
 use Rattle.law.specs.Law.{queue_of, queues_of}
 use Rattle.law.proofs.Marks.{cases_op, put_at, put_off, newly_parts}
 use Rattle.law.proofs.Moments.{each_append, each_ask, queues_meet_all}
-use Rattle.rules_next.specs.declared.interface.OpEvent.TheVariants as happens
-use Rattle.rules_next.specs.declared.interface.StateEntry.{StateEntry}
+use Rattle.rules.specs.declared.interface.OpEvent.TheVariants as happens
+use Rattle.rules.specs.declared.interface.StateEntry.{StateEntry}
 use Rattle.rules_next.specs.declared.interface.Fault.{Fault}
 use Rattle.rules_next.specs.declared.interface.Fault.TheVariants as fault
-use Rattle.rules_next.specs.States.{moved}
+use Rattle.rules.specs.States.{moved}
 use Rattle.rules_next.specs.Meaning.{Meaning}
-use Rattle.rules_next.specs.Histories.{History, recorded}
-use Rattle.rules_next.specs.Setting.{Env, real, inserted, ops_among}
-use Rattle.rules_next.specs.Driver.{Room, Load, Handled, model_of, kept_state, noted, mark_of, marks_of, mark_all_erased, is_hand, with_states, fine, stops, onward, and_then, keep_types, record_types, unlaid, laid, meet_op, meet_block, meet_nodes, forget_dead, handle}
-use Rattle.rules_next.proofs.Marking.{Alive, Known, noted_at, noted_off, known_noted, unmarked_state}
+use Rattle.rules.specs.Histories.{History, recorded}
+use Rattle.rules.specs.Setting.{Env, inserted, ops_among}
+use Rattle.rules_next.specs.Setting.{real}
+use Rattle.rules.specs.Driver.{Room, model_of, kept_state, mark_of, marks_of, with_states}
+use Rattle.rules_next.specs.Driver.{Load, Handled, noted, mark_all_erased, fine, stops, onward, and_then, keep_types, record_types, unlaid, laid, meet_op, meet_block, meet_nodes, forget_dead, handle}
+use Rattle.rules.proofs.Marking.{Alive, Known, unmarked_state}
+use Rattle.rules_next.proofs.Marking.{noted_at, noted_off, known_noted}
 use Rattle.rules_next.proofs.Reals.{laws}
-
--- how many of a list count as new, where the one in hand does not
-abbrev pub new_ones : Option OpId → List OpId → ℕ
-new_ones hand [] = 0
-new_ones hand (o ∷ os) = cond (is_hand hand o) 0 1 + new_ones hand os
+use Rattle.rules.proofs.Batch.{new_ones}
 
 none_some : {A : Type 0} (f : Fault) → Some f ≡ None → A
 none_some f e = let z : ◌≡◌ {A = ℕ} 0 1 = cc in absurd (omega arith)

@@ -7,19 +7,22 @@ use Rattle.model.specs.declared.ids.IRNode.TheVariants as node
 use Rattle.calls.specs.declared.events.RecorderEvent.{RecorderEvent}
 use Rattle.law.specs.Machine.{Moment, newly}
 use Rattle.law.proofs.Lawful.{lawful}
-use Rattle.rules_next.specs.declared.interface.ConversionFault.{ConversionFault}
+use Rattle.rules.specs.declared.interface.ConversionFault.{ConversionFault}
 use Rattle.rules_next.specs.declared.interface.Fault.{Fault}
 use Rattle.rules_next.specs.declared.interface.Fault.TheVariants as fault
 use Rattle.rules_next.specs.declared.interface.Failure.{Failure}
 use Rattle.rules_next.specs.Meaning.{Meaning}
-use Rattle.rules_next.specs.Histories.{History, recorded}
-use Rattle.rules_next.specs.Setting.{Env, real, inserted}
-use Rattle.rules_next.specs.Driver.{World, Room, Load, Handled, model_of, marks_of, with_states, mark_all_erased, fine, stops, onward, and_then, keep_types, record_types, laid, unlaid, meet_node, meet_nodes, forget_dead, handle}
-use Rattle.rules_next.specs.Rules.{Told, Step, Fails, type_fault, type_batch, circle, no_room, rewrite_fault, rewrite_batch, at_op, beyond, retype, retyped_env, left_env, with_lists, states_taken}
+use Rattle.rules.specs.Histories.{History, recorded}
+use Rattle.rules.specs.Setting.{Env, inserted}
+use Rattle.rules_next.specs.Setting.{real}
+use Rattle.rules.specs.Driver.{Room, model_of, marks_of, with_states}
+use Rattle.rules_next.specs.Driver.{World, Load, Handled, mark_all_erased, fine, stops, onward, and_then, keep_types, record_types, laid, unlaid, meet_node, meet_nodes, forget_dead, handle}
+use Rattle.rules.specs.Rules.{with_lists}
+use Rattle.rules_next.specs.Rules.{Told, Step, Fails, type_fault, type_batch, circle, no_room, rewrite_fault, rewrite_batch, at_op, beyond, retype, retyped_env, left_env, states_taken}
 use Rattle.rules_next.specs.View.{view}
 use Rattle.rules_next.specs.Law.{Tries, Endless, CircleExact}
 use Rattle.rules_next.proofs.Reals.{laws}
-use Rattle.rules_next.proofs.Marking.{is_queued_lem}
+use Rattle.rules.proofs.Marking.{is_queued_lem}
 use Rattle.rules_next.proofs.Deciding.{Ended, fell, picks_of, decide, step_decides, fault_decides}
 use Rattle.rules_next.proofs.Held.{Held}
 

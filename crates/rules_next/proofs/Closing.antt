@@ -18,13 +18,16 @@ use Rattle.rules_next.specs.declared.interface.Fault.{Fault}
 use Rattle.rules_next.specs.declared.interface.Fault.TheVariants as fault
 use Rattle.rules_next.specs.declared.interface.Failure.{Failure}
 use Rattle.rules_next.specs.Meaning.{Meaning}
-use Rattle.rules_next.specs.Setting.{Env, real, definers_in, inserted}
-use Rattle.rules_next.specs.Driver.{World, Room, Load, Handled, model_of, marks_of, mark_of, shed, with_states, mark_all_erased, fine, stops, onward, and_then, laid, unlaid, record_types, meet_op, meet_node, meet_nodes, forget_dead, handle}
-use Rattle.rules_next.specs.Rules.{Told, Fails, type_fault, type_batch, circle, no_room, rewrite_fault, rewrite_batch, ready_moments, rewritten_batch, retype, chain_of, first_one, Takes, state_in, convertible, retyped_env, left_env, with_lists, states_taken}
+use Rattle.rules.specs.Setting.{Env, definers_in, inserted}
+use Rattle.rules_next.specs.Setting.{real}
+use Rattle.rules.specs.Driver.{Room, model_of, marks_of, mark_of, shed, with_states}
+use Rattle.rules_next.specs.Driver.{World, Load, Handled, mark_all_erased, fine, stops, onward, and_then, laid, unlaid, record_types, meet_op, meet_node, meet_nodes, forget_dead, handle}
+use Rattle.rules.specs.Rules.{with_lists}
+use Rattle.rules_next.specs.Rules.{Told, Fails, type_fault, type_batch, circle, no_room, rewrite_fault, rewrite_batch, ready_moments, rewritten_batch, retype, chain_of, first_one, Takes, state_in, convertible, retyped_env, left_env, states_taken}
 use Rattle.rules_next.specs.View.{view}
 use Rattle.rules_next.specs.Law.{Ready, Few}
 use Rattle.rules_next.proofs.Reals.{laws}
-use Rattle.rules_next.proofs.Marking.{is_queued_lem}
+use Rattle.rules.proofs.Marking.{is_queued_lem}
 use Rattle.rules_next.proofs.Batch.{types_kept}
 use Rattle.rules_next.proofs.Counting.{counted_fault}
 use Rattle.rules_next.proofs.Held.{Held}

@@ -15,22 +15,22 @@ use Rattle.law.proofs.Once.{good, marked}
 use Rattle.law.proofs.Views.{count_wait, count_rewritten}
 use Rattle.rules_next.specs.declared.interface.Failure.{Failure}
 use Rattle.rules_next.specs.Meaning.{Meaning}
-use Rattle.rules_next.specs.Setting.{Env, real, Good, same_op, definers_in, inserted, ops_among}
-use Rattle.rules_next.specs.Driver.{Pending, World, model_of, mark_of, marks_of, argument}
-use Rattle.rules_next.specs.Rules.{Told, Step, keeps_type, same_type, new_type, stale, sets_aside, waits, rewrites, Fails, type_fault, type_batch, circle, no_room, rewrite_fault, rewrite_batch, no_pick, retype, retyped_env, retyped_batch, state_in, ready_moments, RewrotesTo, rewritten_batch, rewrite_moments, left_env, due_definers, chain_of}
+use Rattle.rules.specs.Setting.{Env, Good, same_op, definers_in, inserted, ops_among}
+use Rattle.rules_next.specs.Setting.{real}
+use Rattle.rules.specs.Driver.{Pending, model_of, mark_of, marks_of, argument}
+use Rattle.rules_next.specs.Driver.{World}
+use Rattle.rules.specs.Rules.{no_pick}
+use Rattle.rules_next.specs.Rules.{Told, Step, keeps_type, same_type, new_type, stale, sets_aside, waits, rewrites, Fails, type_fault, type_batch, circle, no_room, rewrite_fault, rewrite_batch, retype, retyped_env, retyped_batch, state_in, ready_moments, RewrotesTo, rewritten_batch, rewrite_moments, left_env, due_definers, chain_of}
 use Rattle.rules_next.specs.View.{view}
-use Rattle.rules_next.proofs.Reals.{laws, same_is, same_self}
-use Rattle.rules_next.proofs.Marking.{Known, is_queued_lem}
-use Rattle.rules_next.proofs.Batch.{new_ones, quiet_batch}
-use Rattle.rules_next.proofs.Agreeing.{quiet_records, quiet_inserted}
+use Rattle.rules.proofs.Reals.{same_self}
+use Rattle.rules_next.proofs.Reals.{laws}
+use Rattle.rules.proofs.Marking.{Known, is_queued_lem}
+use Rattle.rules.proofs.Batch.{new_ones}
+use Rattle.rules_next.proofs.Batch.{quiet_batch}
+use Rattle.rules.proofs.Agreeing.{quiet_records}
+use Rattle.rules_next.proofs.Agreeing.{quiet_inserted}
 use Rattle.rules_next.proofs.Follow.{rewrite_lays, as_rewrite}
-
-pub new_all : (os : List OpId) → new_ones None os ≡ length os
-new_all [] = refl
-new_all (o ∷ os) = omega (arith, new_all os)
-
-other_op : (x y : OpId) → (x ≡ y → ⊥) → same_op x y ≡ false
-other_op x y ne = elim (cases_Bool (same_op x y)) [ inl h ↦ absurd (ne (same_is x y h)) | inr h ↦ h ]
+use Rattle.rules.proofs.Counting.{other_op}
 
 module _ {C : Type 0} (M : Meaning C) where
   -- of what a batch lays, all get their first mark but x, which had one

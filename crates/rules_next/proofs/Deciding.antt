@@ -7,16 +7,18 @@ use Rattle.calls.specs.World.{Pick, Reply, done, made, created, refused}
 use Rattle.calls.specs.World as calls
 use Rattle.law.specs.Lists.{member, then}
 use Rattle.law.specs.Machine.{asked, ask_along, rewrote}
-use Rattle.rules_next.specs.declared.interface.Phase.TheVariants as phase
-use Rattle.rules_next.specs.declared.interface.Fate.TheVariants as fate
-use Rattle.rules_next.specs.declared.interface.ConversionFault.{ConversionFault}
+use Rattle.rules.specs.declared.interface.Phase.TheVariants as phase
+use Rattle.rules.specs.declared.interface.Fate.TheVariants as fate
+use Rattle.rules.specs.declared.interface.ConversionFault.{ConversionFault}
 use Rattle.rules_next.specs.declared.interface.Fault.{Fault}
 use Rattle.rules_next.specs.declared.interface.Fault.TheVariants as fault
 use Rattle.rules_next.specs.declared.interface.Failure.{Failure}
 use Rattle.rules_next.specs.Meaning.{Meaning}
 use Rattle.rules_next.specs.Setting.{real}
-use Rattle.rules_next.specs.Driver.{Pending, World, model_of, marks_of, argument}
-use Rattle.rules_next.specs.Rules.{Told, Step, keeps_type, same_type, new_type, stale, sets_aside, waits, rewrites, Fails, type_fault, type_batch, circle, no_room, rewrite_fault, rewrite_batch, nothing, stepped, valued, finished, answered, retype, retyped_batch, retyped_world, state_in, convertible, first_one, chain_of, beyond, states_taken, one_record, stale_world, aside_world, wait_entries, wait_world, wait_moments, ready_moments, RewrotesTo, left_env, rewritten_batch, rewritten_world, rewrite_moments, in_block, at_op, closed_taken_world, closed_waiting, asked_one, with_lists, some_record}
+use Rattle.rules.specs.Driver.{Pending, model_of, marks_of, argument}
+use Rattle.rules_next.specs.Driver.{World}
+use Rattle.rules.specs.Rules.{with_lists, some_record}
+use Rattle.rules_next.specs.Rules.{Told, Step, keeps_type, same_type, new_type, stale, sets_aside, waits, rewrites, Fails, type_fault, type_batch, circle, no_room, rewrite_fault, rewrite_batch, nothing, stepped, valued, finished, answered, retype, retyped_batch, retyped_world, state_in, convertible, first_one, chain_of, beyond, states_taken, one_record, stale_world, aside_world, wait_entries, wait_world, wait_moments, ready_moments, RewrotesTo, left_env, rewritten_batch, rewritten_world, rewrite_moments, in_block, at_op, closed_taken_world, closed_waiting, asked_one}
 use Rattle.rules_next.specs.Determined.{StepsDetermined}
 use Rattle.rules_next.specs.Law.{plan_of, left_by}
 

@@ -12,20 +12,25 @@ use Rattle.law.specs.Machine.{Mark, queued, rewritten, Moment, rewrote, put, Agr
 use Rattle.law.specs.Machine as machine
 use Rattle.law.proofs.Marks.{cases_op, put_at, put_off, kept_live}
 use Rattle.law.proofs.Views.{same_state, step_to}
-use Rattle.rules_next.specs.declared.interface.OpState.TheVariants as state
-use Rattle.rules_next.specs.declared.interface.OpEvent.TheVariants as happens
-use Rattle.rules_next.specs.declared.interface.StateEntry.{StateEntry}
+use Rattle.rules.specs.declared.interface.OpState.TheVariants as state
+use Rattle.rules.specs.declared.interface.OpEvent.TheVariants as happens
+use Rattle.rules.specs.declared.interface.StateEntry.{StateEntry}
 use Rattle.rules_next.specs.Meaning.{Meaning}
-use Rattle.rules_next.specs.Setting.{Env, real, Good, Rewrites, inserted, ops_among}
-use Rattle.rules_next.specs.Driver.{Pending, World, Load, model_of, kept_state, noted, mark_of, marks_of, mark_all_erased, chain, linked, argument, shed}
-use Rattle.rules_next.specs.Rules.{Told, Step, finished, valued, answered, retyped_world, stale_world, aside_world, wait_world, rewritten_world, keeps_type, same_type, new_type, stale, sets_aside, waits, rewrites, noted_all, no_pick, with_lists, retype, retyped_env, retyped_batch, ready_moments, rewritten_batch, left_env, RewrotesTo, states_taken, due_definers, first_one, chain_of, operand_types}
+use Rattle.rules.specs.Setting.{Env, Good, inserted, ops_among}
+use Rattle.rules_next.specs.Setting.{real, Rewrites}
+use Rattle.rules.specs.Driver.{Pending, model_of, kept_state, mark_of, marks_of, chain, linked, argument, shed}
+use Rattle.rules_next.specs.Driver.{World, Load, noted, mark_all_erased}
+use Rattle.rules.specs.Rules.{no_pick, with_lists}
+use Rattle.rules_next.specs.Rules.{Told, Step, finished, valued, answered, retyped_world, stale_world, aside_world, wait_world, rewritten_world, keeps_type, same_type, new_type, stale, sets_aside, waits, rewrites, noted_all, retype, retyped_env, retyped_batch, ready_moments, rewritten_batch, left_env, RewrotesTo, states_taken, due_definers, first_one, chain_of, operand_types}
 use Rattle.rules_next.specs.View.{view}
 use Rattle.rules_next.proofs.Reals.{laws, rewrite_leads, retype_leads, left_stands}
-use Rattle.rules_next.proofs.Marking.{Alive, Known, known_later, noted_at, noted_off, known_noted, erased_all, known_all, always_rewritten, is_queued_lem, not_queued}
+use Rattle.rules.proofs.Marking.{Alive, Known, known_later, always_rewritten, is_queued_lem, not_queued}
+use Rattle.rules_next.proofs.Marking.{noted_at, noted_off, known_noted, erased_all, known_all}
 use Rattle.rules_next.proofs.Batch.{Meets, handled, Lays, laid_batch}
-use Rattle.rules_next.proofs.Recorded.{AllStand}
-use Rattle.rules_next.proofs.Chain.{chain_ends}
-use Rattle.rules_next.proofs.Agreeing.{quiet_records, quiet_inserted, quiet_erased, kept_agree, during_agree, aside_agree, wait_agree, wait_known}
+use Rattle.rules.proofs.Recorded.{AllStand}
+use Rattle.rules.proofs.Chain.{chain_ends}
+use Rattle.rules.proofs.Agreeing.{quiet_records}
+use Rattle.rules_next.proofs.Agreeing.{quiet_inserted, quiet_erased, kept_agree, during_agree, aside_agree, wait_agree, wait_known}
 
 module _ {C : Type 0} (M : Meaning C) where
   -- a step of the law, and what is known of the states afterwards

@@ -16,18 +16,21 @@ use Rattle.law.specs.Law.{mets_of, ever_of}
 use Rattle.law.proofs.Moments.{mets_meet_all}
 use Rattle.law.proofs.Once.{good}
 use Rattle.law.proofs.Views.{same_state, count_begun}
-use Rattle.rules_next.specs.declared.interface.OpState.TheVariants as state
+use Rattle.rules.specs.declared.interface.OpState.TheVariants as state
 use Rattle.rules_next.specs.Meaning.{Meaning}
-use Rattle.rules_next.specs.Setting.{real, Good, ops_among}
-use Rattle.rules_next.specs.Driver.{Pending, World, Room, model_of, kept_state, mark_of, marks_of, argument, shed}
+use Rattle.rules.specs.Setting.{Good, ops_among}
+use Rattle.rules_next.specs.Setting.{real}
+use Rattle.rules.specs.Driver.{Pending, Room, model_of, kept_state, mark_of, marks_of, argument, shed}
+use Rattle.rules_next.specs.Driver.{World}
 use Rattle.rules_next.specs.Rules.{Step, Told, Run, start, more, tidied, done_world, clear_env, no_memory, begun_world}
 use Rattle.rules_next.specs.Rules as rules
 use Rattle.rules_next.specs.View.{view}
 use Rattle.rules_next.proofs.Reals.{laws}
-use Rattle.rules_next.proofs.Marking.{Alive, Known}
+use Rattle.rules.proofs.Marking.{Alive, Known}
 use Rattle.rules_next.proofs.Batch.{Meets, met_nodes}
 use Rattle.rules_next.proofs.Follow.{follow}
-use Rattle.rules_next.proofs.Counting.{new_all, counted_step}
+use Rattle.rules.proofs.Counting.{new_all}
+use Rattle.rules_next.proofs.Counting.{counted_step}
 
 -- dropping pending blocks twice is dropping them once
 pub shed_again : (m : Model) (ps : List Pending) → shed m (shed m ps) ≡ shed m ps

@@ -1,9 +1,6 @@
-pub mod Sizes
-pub mod Recorded
 pub mod Reals
 pub mod Marking
 pub mod Batch
-pub mod Chain
 pub mod Agreeing
 pub mod Follow
 pub mod Counting

@@ -1,51 +1,24 @@
 -- What is noted of an operation is read of it, and of no other that lives.
-use Rattle.std.proofs.Common.{◌≡◌, ℕ, Bool, true, false, cond, ◌&&◌, ◌||◌, eqb, ltb, ◌⊎◌, List, [], ◌∷◌, is_some, sym, refl, ap, ◌∙◌, subst, inl, inr, arith}
-use Rattle.std.proofs.lemmas.Bool.{cases_Bool, cases_eq, both_ways, eqb-true, eq-eqb, ne_eqb, and_parts, or_cases, cond-true, cond-false}
+use Rattle.std.proofs.Common.{◌≡◌, ℕ, true, false, ◌&&◌, ◌||◌, eqb, ltb, List, [], ◌∷◌, is_some, sym, refl, ap, ◌∙◌, subst, inl, inr}
+use Rattle.std.proofs.lemmas.Bool.{cases_Bool, cases_eq, both_ways, eqb-true, and_parts, or_cases, cond-true, cond-false}
 use Rattle.model.specs.declared.ids.OpId.{OpId}
 use Rattle.model.specs.declared.ids.IRNode.TheVariants as node
 use Rattle.model.specs.Model.{Model, find_op, put}
-use Rattle.model.specs.Later.{Dead, Later}
+use Rattle.model.specs.Later.{Dead}
 use Rattle.model.proofs.Lists.{put_same, put_other}
 use Rattle.model.proofs.Lives.{same_generation}
 use Rattle.model.proofs.Past.{past_not_node}
 use Rattle.calls.specs.declared.events.RecorderEvent.{RecorderEvent}
 use Rattle.calls.specs.declared.events.RecorderEvent.TheVariants as event
-use Rattle.law.specs.Machine.{unmarked, queued, asking}
-use Rattle.rules_next.specs.declared.interface.OpState.{OpState}
-use Rattle.rules_next.specs.declared.interface.OpState.TheVariants as state
-use Rattle.rules_next.specs.declared.interface.OpEvent.{OpEvent}
-use Rattle.rules_next.specs.declared.interface.OpEvent.TheVariants as happens
-use Rattle.rules_next.specs.declared.interface.StateEntry.{StateEntry}
-use Rattle.rules_next.specs.States.{moved}
-use Rattle.rules_next.specs.Driver.{of_generation, kept_state, state_of, notable, noted, mark_of, marks_of, is_queued, mark_erased, mark_all_erased}
-use Rattle.rules_next.proofs.Recorded.{Stands, AllStand}
-
-abbrev pub Alive : Model → OpId → Type 0
-Alive m o = is_some (find_op m o) ≡ true
-
--- the operation was given
-abbrev pub Given : Model → OpId → Type 0
-Given m o = Alive m o ⊎ Dead m (node.Operation o)
-
--- only of operations that were given something is kept
-abbrev pub Known : Model → (ℕ → StateEntry) → Type 0
-Known m ks = (y : OpId) → Given m y ⊎ (kept_state ks y ≡ state.Unmarked)
-
-pub given_later : (m n : Model) (o : OpId) → Later m n → Given m o → Given n o
-given_later m n o l (inl h) = l.once (node.Operation o) h
-given_later m n o l (inr h) = inr (l.gone (node.Operation o) h)
-
-pub known_later : (m n : Model) (ks : ℕ → StateEntry) → Later m n → Known m ks → Known n ks
-known_later m n ks l k y = elim (k y) [ inl g ↦ inl (given_later m n y l g) | inr u ↦ inr u ]
-
-same_op : (o y : OpId) → o.slot ≡ y.slot → o.generation ≡ y.generation → o ≡ y
-same_op o y s g = λ i. record { slot = s i; generation = g i }
-
-of_same : (k : StateEntry) (g : ℕ) → k.generation ≡ g → of_generation k g ≡ k.state
-of_same k g e = ap (λ b. cond b k.state state.Unmarked) (eq-eqb k.generation g e)
-
-of_other : (k : StateEntry) (g : ℕ) → (k.generation ≡ g → ⊥) → of_generation k g ≡ state.Unmarked
-of_other k g ne = ap (λ b. cond b k.state state.Unmarked) (ne_eqb k.generation g ne)
+use Rattle.rules.specs.declared.interface.OpState.TheVariants as state
+use Rattle.rules.specs.declared.interface.OpEvent.{OpEvent}
+use Rattle.rules.specs.declared.interface.OpEvent.TheVariants as happens
+use Rattle.rules.specs.declared.interface.StateEntry.{StateEntry}
+use Rattle.rules.specs.States.{moved}
+use Rattle.rules.specs.Driver.{of_generation, kept_state}
+use Rattle.rules_next.specs.Driver.{notable, noted, mark_erased, mark_all_erased}
+use Rattle.rules.proofs.Recorded.{Stands, AllStand}
+use Rattle.rules.proofs.Marking.{Alive, Given, Known, same_op, of_same, of_other}
 
 module _ (m : Model) (ks : ℕ → StateEntry) (o : OpId) (e : OpEvent) where
   abbrev entry : StateEntry
@@ -120,51 +93,3 @@ module _ (m : Model) where
   pub known_all : (ks : ℕ → StateEntry) (es : List RecorderEvent) → AllStand m es → Known m ks → Known m (mark_all_erased m ks es)
   known_all ks [] h k = k
   known_all ks (d ∷ es) h k = known_all (mark_erased m ks d) es (λ e i. h e (inr i)) (known_one ks d (h d (inl refl)) k)
-
--- states and marks
-pub queued_state : (s : OpState) → is_queued s ≡ true → s ≡ state.Queued
-queued_state state.Unmarked h = absurd (both_ways false refl h)
-queued_state state.Queued h = refl
-queued_state state.Rewritten h = absurd (both_ways false refl h)
-queued_state state.SetAside h = absurd (both_ways false refl h)
-queued_state state.Erased h = absurd (both_ways false refl h)
-
-pub queued_mark : (s : OpState) → mark_of s ≡ queued → is_queued s ≡ true
-queued_mark state.Unmarked h = let z : ◌≡◌ {A = ℕ} 0 1 = cc in absurd (omega arith)
-queued_mark state.Queued h = refl
-queued_mark state.Rewritten h = let z : ◌≡◌ {A = ℕ} 0 1 = cc in absurd (omega arith)
-queued_mark state.SetAside h = let z : ◌≡◌ {A = ℕ} 0 1 = cc in absurd (omega arith)
-queued_mark state.Erased h = let z : ◌≡◌ {A = ℕ} 0 1 = cc in absurd (omega arith)
-
-pub unmarked_state : (s : OpState) → mark_of s ≡ unmarked → s ≡ state.Unmarked
-unmarked_state state.Unmarked h = refl
-unmarked_state state.Queued h = let z : ◌≡◌ {A = ℕ} 0 1 = cc in absurd (omega arith)
-unmarked_state state.Rewritten h = let z : ◌≡◌ {A = ℕ} 0 1 = cc in absurd (omega arith)
-unmarked_state state.SetAside h = let z : ◌≡◌ {A = ℕ} 0 1 = cc in absurd (omega arith)
-unmarked_state state.Erased h = let z : ◌≡◌ {A = ℕ} 0 1 = cc in absurd (omega arith)
-
--- one that is asked can be queued
-pub asking_queued : (s : OpState) → asking (mark_of s) ≡ true → moved s happens.Queued ≡ state.Queued
-asking_queued state.Unmarked h = refl
-asking_queued state.Queued h = refl
-asking_queued state.Rewritten h = absurd (both_ways false refl h)
-asking_queued state.SetAside h = absurd (both_ways false refl h)
-asking_queued state.Erased h = absurd (both_ways false refl h)
-
-pub always_rewritten : (s : OpState) → moved s happens.Rewritten ≡ state.Rewritten
-always_rewritten state.Unmarked = refl
-always_rewritten state.Queued = refl
-always_rewritten state.Rewritten = refl
-always_rewritten state.SetAside = refl
-always_rewritten state.Erased = refl
-
--- the front entry's operation lives and is queued, or not
-read_queued : (b : Bool) (s : OpState) → is_queued (cond b s state.Erased) ≡ true → (b ≡ true) × (s ≡ state.Queued)
-read_queued true s h = (refl, queued_state s h)
-read_queued false s h = absurd (both_ways false refl h)
-
-pub is_queued_lem : (m : Model) (ks : ℕ → StateEntry) (x : OpId) → is_queued (state_of m ks x) ≡ true → Alive m x × (kept_state ks x ≡ state.Queued)
-is_queued_lem m ks x h = read_queued (is_some (find_op m x)) (kept_state ks x) h
-
-pub not_queued : (m : Model) (ks : ℕ → StateEntry) (x : OpId) → is_queued (state_of m ks x) ≡ false → Alive m x → marks_of ks x ≡ queued → ⊥
-not_queued m ks x h l q = both_ways _ (sym (ap (λ b. is_queued (cond b (kept_state ks x) state.Erased)) l) ∙ h) (queued_mark (kept_state ks x) q)

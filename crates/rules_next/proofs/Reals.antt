@@ -1,22 +1,13 @@
 -- The store and a conversion have what the law needs.
-use Rattle.std.proofs.Common.{◌≡◌, ℕ, ◌≤◌, Bool, true, false, cond, eqb, ◌⊎◌, List, [], ◌∷◌, ◌++◌, length, Some, None, sym, refl, ap, ◌∙◌, subst, inl, inr, arith}
-use Rattle.std.proofs.lemmas.List.{length-append}
-use Rattle.std.proofs.lemmas.Bool.{eqb-true, eq-eqb, and_parts, and_from}
-use Rattle.std.specs.List.{flat_map}
-use Rattle.slots.specs.Cells.{Cell}
-use Rattle.slots.specs.Cells.{Free, Live, Spent}
-use Rattle.slots.specs.Cells.{cell_at, under}
+use Rattle.std.proofs.Common.{◌≡◌, true, ◌⊎◌, List, [], ◌++◌, sym, ap, ◌∙◌, subst, inl, inr, arith}
+use Rattle.slots.specs.Cells.{cell_at}
 use Rattle.slots.proofs.CellLaws.{found_is_live, live_within}
 use Rattle.model.specs.declared.ids.OpId.{OpId}
-use Rattle.model.specs.declared.ids.Value.{Value}
-use Rattle.model.specs.declared.ids.DefiningEntity.{DefiningEntity}
-use Rattle.model.specs.declared.ids.DefiningEntity.TheVariants as definer
-use Rattle.model.specs.declared.ids.IRNode.{IRNode}
 use Rattle.model.specs.declared.ids.IRNode.TheVariants as node
-use Rattle.model.specs.Model.{Model, Operation, find_op}
-use Rattle.model.specs.Sound.{Sound, Among}
+use Rattle.model.specs.Model.{Operation, find_op}
+use Rattle.model.specs.Sound.{Among}
 use Rattle.model.specs.Erasing.{is_node, operands_of}
-use Rattle.model.specs.Later.{Dead, Later}
+use Rattle.model.specs.Later.{Dead}
 use Rattle.model.proofs.Past.{past_not_node}
 use Rattle.model.proofs.Lives.{same_generation}
 use Rattle.model.proofs.Laters.{later_refl}
@@ -29,61 +20,11 @@ use Rattle.calls.proofs.Performing.{lawful_call, lawful_calls}
 use Rattle.law.specs.Lists.{In}
 use Rattle.law.specs.Laws.{Laws}
 use Rattle.rules_next.specs.Meaning.{Meaning}
-use Rattle.rules_next.specs.Setting.{Env, same_op, in_graph, definer_of, definers_of, aimed, block_erased, inserted_by, op_of, ops_among, FewIn, Sized, Good, Rewrites, Retypes, real}
-use Rattle.rules_next.proofs.Sizes.{sized_call, sized_calls}
-use Rattle.rules_next.proofs.Recorded.{Stands, stand_calls}
-
-pub same_is : (x y : OpId) → same_op x y ≡ true → x ≡ y
-same_is x y h =
-    let both = and_parts (eqb x.slot y.slot) (eqb x.generation y.generation) h in
-    λ i. record { slot = eqb-true x.slot y.slot both.0 i; generation = eqb-true x.generation y.generation both.1 i }
-
-pub same_self : (x : OpId) → same_op x x ≡ true
-same_self x = and_from (eqb x.slot x.slot) (eqb x.generation x.generation) (eq-eqb x.slot x.slot refl) (eq-eqb x.generation x.generation refl)
-
-one_definer : (m : Model) (d : DefiningEntity) → length (definer_of m d) ≤ 1
-one_definer m (definer.Op o) = at (in_graph m o.slot)
-  where
-    at : (b : Bool) → length (cond b [] (o ∷ [])) ≤ 1
-    at true = omega arith
-    at false = omega arith
-one_definer m (definer.Block b) = omega arith
-
-few_definers : (m : Model) (vs : List Value) → length (definers_of m vs) ≤ length vs
-few_definers m [] = omega arith
-few_definers m (v ∷ vs) = omega (arith, one_definer m v.definer, few_definers m vs, length-append (definer_of m v.definer) (definers_of m vs))
-
-few_under : (c : Cell Operation) (g : ℕ) → FewIn c → length (operands_of (under c g)) ≤ 8
-few_under (Free k) g h = omega arith
-few_under (Live k x) g h = at (eqb k g)
-  where
-    at : (b : Bool) → length (operands_of (cond b (Some x) None)) ≤ 8
-    at true = h
-    at false = omega arith
-few_under Spent g h = omega arith
-
--- a record names each operation that was inserted
-skips : (y : OpId) (b : Bool) (n : IRNode) (ns : List IRNode) (P : Type 0) → op_of n ≡ [] → (In y (ops_among ns) → P) → In y (ops_among (cond b [] (n ∷ []) ++ ns)) → P
-skips y true n ns P e k i = k i
-skips y false n ns P e k i = k (subst (λ os. In y (os ++ ops_among ns)) e i)
-
-inserted_among : (y : OpId) (all es : List RecorderEvent) → In y (ops_among (flat_map (inserted_by all) es)) → Among (event.InsertedOperation y) es
-inserted_among y all [] i = absurd i
-inserted_among y all (event.InsertedOperation o ∷ es) (inl q) = inl (ap event.InsertedOperation q)
-inserted_among y all (event.InsertedOperation o ∷ es) (inr i) = inr (inserted_among y all es i)
-inserted_among y all (event.InsertedBlock b ∷ es) i = inr (skips y (block_erased all b) (node.BasicBlock b) (flat_map (inserted_by all) es) (Among (event.InsertedOperation y) es) refl (inserted_among y all es) i)
-inserted_among y all (event.ErasedOperation o ∷ es) i = inr (inserted_among y all es i)
-inserted_among y all (event.ErasedBlock b ∷ es) i = inr (inserted_among y all es i)
-inserted_among y all (event.ErasedRegion r ∷ es) i = inr (inserted_among y all es i)
-inserted_among y all (event.ReplacedValueUses v t u ∷ es) i = inr (inserted_among y all es i)
-inserted_among y all (event.ValueTypeChanged v t u ∷ es) i = inr (inserted_among y all es i)
-inserted_among y all (event.UnlinkedOperation o p ∷ es) i = inr (inserted_among y all es i)
-
--- what a step does to the store
-pub record Leads (m n : Model) : Type 0 where
-  pub sound : Sound n
-  pub sized : Sized n
-  pub later : Later m n
+use Rattle.rules.specs.Setting.{Env, aimed, Sized, Good, Retypes}
+use Rattle.rules_next.specs.Setting.{Rewrites, real}
+use Rattle.rules.proofs.Sizes.{sized_call, sized_calls}
+use Rattle.rules.proofs.Recorded.{Stands, stand_calls}
+use Rattle.rules.proofs.Reals.{same_is, same_self, few_definers, few_under, inserted_among, Leads}
 
 module _ {C : Type 0} (M : Meaning C) where
   abbrev calls_of : (e : Env C) (x : OpId) (d : Env C) (is : List OpId) → Rewrites M e x d is → List Call

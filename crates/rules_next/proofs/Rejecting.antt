@@ -15,20 +15,23 @@ use Rattle.law.proofs.Lists.{in_keep, none_some}
 use Rattle.law.proofs.Chains.{member_end}
 use Rattle.law.proofs.Circle.{first_due_lem}
 use Rattle.law.proofs.Moments.{wait_rewrites}
-use Rattle.rules_next.specs.declared.interface.Fate.{Fate}
-use Rattle.rules_next.specs.declared.interface.Fate.TheVariants as fate
-use Rattle.rules_next.specs.declared.interface.TrailRecord.{TrailRecord}
-use Rattle.rules_next.specs.declared.interface.IRStatus.{IRStatus}
-use Rattle.rules_next.specs.declared.interface.Answer.{Answer}
-use Rattle.rules_next.specs.declared.interface.Answer.TheVariants as answer
-use Rattle.rules_next.specs.declared.interface.ConversionFault.{ConversionFault}
+use Rattle.rules.specs.declared.interface.Fate.{Fate}
+use Rattle.rules.specs.declared.interface.Fate.TheVariants as fate
+use Rattle.rules.specs.declared.interface.TrailRecord.{TrailRecord}
+use Rattle.rules.specs.declared.interface.IRStatus.{IRStatus}
+use Rattle.rules.specs.declared.interface.Answer.{Answer}
+use Rattle.rules.specs.declared.interface.Answer.TheVariants as answer
+use Rattle.rules.specs.declared.interface.ConversionFault.{ConversionFault}
 use Rattle.rules_next.specs.declared.interface.Fault.TheVariants as fault
 use Rattle.rules_next.specs.declared.interface.Failure.{Failure}
 use Rattle.rules_next.specs.declared.interface.Report.{Report}
 use Rattle.rules_next.specs.Meaning.{Meaning}
-use Rattle.rules_next.specs.Setting.{real, definers_in}
-use Rattle.rules_next.specs.Driver.{Pending, World, Room, model_of, marks_of}
-use Rattle.rules_next.specs.Rules.{Told, Step, keeps_type, same_type, new_type, stale, sets_aside, waits, rewrites, Fails, type_fault, type_batch, circle, no_room, rewrite_fault, rewrite_batch, Run, start, more, Ran, not_open, is_done, stopped, closes, Takes, Asks, tidied, has_work, may_go, one_record, state_in, convertible, first_one, beyond, chain_of, due_definers, retyped_env, retyped_batch, retype, left_env, with_lists, states_taken, rewritten_batch, rewrite_moments, RewrotesTo, at_op}
+use Rattle.rules.specs.Setting.{definers_in}
+use Rattle.rules_next.specs.Setting.{real}
+use Rattle.rules.specs.Driver.{Pending, Room, model_of, marks_of}
+use Rattle.rules_next.specs.Driver.{World}
+use Rattle.rules.specs.Rules.{with_lists}
+use Rattle.rules_next.specs.Rules.{Told, Step, keeps_type, same_type, new_type, stale, sets_aside, waits, rewrites, Fails, type_fault, type_batch, circle, no_room, rewrite_fault, rewrite_batch, Run, start, more, Ran, not_open, is_done, stopped, closes, Takes, Asks, tidied, has_work, may_go, one_record, state_in, convertible, first_one, beyond, chain_of, due_definers, retyped_env, retyped_batch, retype, left_env, states_taken, rewritten_batch, rewrite_moments, RewrotesTo, at_op}
 use Rattle.rules_next.specs.Law.{NoneDue, Tries}
 use Rattle.rules_next.specs.Rejects.{work_of, Leaves, Calls, RulesReject}
 use Rattle.rules_next.proofs.Reals.{laws}

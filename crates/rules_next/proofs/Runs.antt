@@ -4,13 +4,14 @@ use Rattle.std.proofs.lemmas.Bool.{cases_Bool, cases_eq, cases_lt, both_ways}
 use Rattle.model.specs.declared.ids.OpId.{OpId}
 use Rattle.model.specs.Model.{find_op}
 use Rattle.calls.specs.World.{Pick}
-use Rattle.rules_next.specs.declared.interface.Answer.TheVariants as answer
+use Rattle.rules.specs.declared.interface.Answer.TheVariants as answer
 use Rattle.rules_next.specs.declared.interface.Fault.{Fault}
 use Rattle.rules_next.specs.declared.interface.Fault.TheVariants as fault
 use Rattle.rules_next.specs.declared.interface.Failure.{Failure}
 use Rattle.rules_next.specs.declared.interface.Report.{Report}
 use Rattle.rules_next.specs.Meaning.{Meaning}
-use Rattle.rules_next.specs.Driver.{World, Room, model_of}
+use Rattle.rules.specs.Driver.{Room, model_of}
+use Rattle.rules_next.specs.Driver.{World}
 use Rattle.rules_next.specs.Rules.{Told, Step, Run, start, more, Ran, not_open, is_done, stopped, closes, nothing, both, tidied, has_work, may_go, runs, status_of, report, done_world, Begun, not_live, unfinished, is_full, begins, at_op, walked, begun_world, is_open}
 use Rattle.rules_next.specs.Determined.{RulesDetermined}
 use Rattle.rules_next.proofs.Deciding.{Ended, went, picks_of, decide, step_decides, fault_decides, steps_determined}

@@ -11,20 +11,23 @@ use Rattle.law.specs.Law.{rewrites_of, mets_of}
 use Rattle.law.proofs.Moments.{wait_rewrites, rewrite_mets}
 use Rattle.law.proofs.Once.{good}
 use Rattle.law.proofs.Lawful.{lawful}
-use Rattle.rules_next.specs.declared.interface.IRStatus.{IRStatus}
-use Rattle.rules_next.specs.declared.interface.Answer.TheVariants as answer
+use Rattle.rules.specs.declared.interface.IRStatus.{IRStatus}
+use Rattle.rules.specs.declared.interface.Answer.TheVariants as answer
 use Rattle.rules_next.specs.declared.interface.Failure.{Failure}
 use Rattle.rules_next.specs.declared.interface.Report.{Report}
 use Rattle.rules_next.specs.Meaning.{Meaning}
-use Rattle.rules_next.specs.Setting.{real, Good, definers_in, inserted, ops_among}
-use Rattle.rules_next.specs.Driver.{World, Room, model_of, marks_of, shed}
-use Rattle.rules_next.specs.Rules.{Told, Step, keeps_type, same_type, new_type, stale, sets_aside, waits, rewrites, Fails, type_fault, type_batch, circle, no_room, rewrite_fault, rewrite_batch, Ran, not_open, is_done, stopped, closes, Begun, not_live, unfinished, is_full, begins, tidied, some_record, is_begun, runs, clear_env, walked, done_world, chain_of, due_definers, ready_moments, left_env}
+use Rattle.rules.specs.Setting.{Good, definers_in, inserted, ops_among}
+use Rattle.rules_next.specs.Setting.{real}
+use Rattle.rules.specs.Driver.{Room, model_of, marks_of, shed}
+use Rattle.rules_next.specs.Driver.{World}
+use Rattle.rules.specs.Rules.{some_record}
+use Rattle.rules_next.specs.Rules.{Told, Step, keeps_type, same_type, new_type, stale, sets_aside, waits, rewrites, Fails, type_fault, type_batch, circle, no_room, rewrite_fault, rewrite_batch, Ran, not_open, is_done, stopped, closes, Begun, not_live, unfinished, is_full, begins, tidied, is_begun, runs, clear_env, walked, done_world, chain_of, due_definers, ready_moments, left_env}
 use Rattle.rules_next.specs.View.{view}
 use Rattle.rules_next.specs.Called.{Called, is_new, is_touched, begin_refused, begin_accepted, run_answered, Amid, amid}
 use Rattle.rules_next.specs.Law.{Moves, Ready, Few, Settled, left_by, DriverLaw}
 use Rattle.rules_next.proofs.Reals.{laws}
 use Rattle.rules_next.proofs.Follow.{follow, rewrite_meets}
-use Rattle.rules_next.proofs.Marking.{is_queued_lem}
+use Rattle.rules.proofs.Marking.{is_queued_lem}
 use Rattle.rules_next.proofs.Rejecting.{ok_err, stopped_done, R, told, retype_rewrites, batch_rewrites}
 use Rattle.rules_next.proofs.Held.{shed_again, Held, held_begun, held_tidied, held_done, held_run, walk_mets}
 use Rattle.rules_next.proofs.Closing.{shut, shut_few}

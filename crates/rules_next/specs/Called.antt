@@ -2,12 +2,14 @@
 use Rattle.std.specs.Prelude.{◌≡◌, ℕ, true, false, List, ◌++◌, Some, None, Ok, Err, Option}
 use Rattle.model.specs.declared.ids.OpId.{OpId}
 use Rattle.law.specs.Machine.{Moment}
-use Rattle.rules_next.specs.declared.interface.Phase.TheVariants as phase
+use Rattle.rules.specs.declared.interface.Phase.TheVariants as phase
 use Rattle.rules_next.specs.declared.interface.Failure.{Failure}
 use Rattle.rules_next.specs.declared.interface.Report.{Report}
 use Rattle.rules_next.specs.Meaning.{Meaning}
-use Rattle.rules_next.specs.Setting.{Env, real, Good}
-use Rattle.rules_next.specs.Driver.{Pending, Memory, World, Room}
+use Rattle.rules.specs.Setting.{Env, Good}
+use Rattle.rules_next.specs.Setting.{real}
+use Rattle.rules.specs.Driver.{Pending, Memory, Room}
+use Rattle.rules_next.specs.Driver.{World}
 use Rattle.rules_next.specs.Rules.{Told, Run, Ran, Begun, tidied, runs, clear_env, no_counts}
 
 module _ {C : Type 0} (M : Meaning C) where

@@ -4,7 +4,8 @@ use Rattle.model.specs.declared.ids.OpId.{OpId}
 use Rattle.rules_next.specs.declared.interface.Report.{Report}
 use Rattle.rules_next.specs.declared.interface.Failure.{Failure}
 use Rattle.rules_next.specs.Meaning.{Meaning}
-use Rattle.rules_next.specs.Driver.{World, Room}
+use Rattle.rules.specs.Driver.{Room}
+use Rattle.rules_next.specs.Driver.{World}
 use Rattle.rules_next.specs.Rules.{Told, Step, Fails, Ran, Begun}
 
 -- of single steps

@@ -1,46 +1,26 @@
 -- What the driver keeps, and how it handles a batch of records.
-use Rattle.std.specs.Prelude.{ℕ, zero, suc, ◌+◌, Bool, true, false, cond, ◌&&◌, ◌||◌, List, [], ◌∷◌, ◌++◌, length, is_some, Some, None, Option, ◌==◌, nat_lt}
-use Rattle.std.proofs.Math.Option as mathlib_option
+use Rattle.std.specs.Prelude.{ℕ, ◌+◌, Bool, cond, ◌&&◌, ◌||◌, List, [], ◌∷◌, ◌++◌, length, is_some, Some, None, Option, ◌==◌, nat_lt}
 use Rattle.model.specs.declared.ids.OpId.{OpId}
 use Rattle.model.specs.declared.ids.BlockId.{BlockId}
-use Rattle.model.specs.declared.ids.Value.{Value}
-use Rattle.model.specs.declared.ids.DefiningEntity.TheVariants as definer
 use Rattle.model.specs.declared.ids.IRNode.{IRNode}
 use Rattle.model.specs.declared.ids.IRNode.TheVariants as node
-use Rattle.model.specs.Model.{Model, find_op, is_value, put}
+use Rattle.model.specs.Model.{Model, find_op, put}
 use Rattle.calls.specs.declared.events.RecorderEvent.{RecorderEvent}
 use Rattle.calls.specs.declared.events.RecorderEvent.TheVariants as event
-use Rattle.law.specs.Machine.{Mark, unmarked, queued, rewritten, aside, Moment, met, queues, ask, newly}
-use Rattle.rules_next.specs.declared.interface.Phase.{Phase}
+use Rattle.law.specs.Machine.{Moment, met, queues, ask, newly}
+use Rattle.rules.specs.declared.interface.Phase.{Phase}
 use Rattle.rules_next.specs.declared.interface.Counts.{Counts}
-use Rattle.rules_next.specs.declared.interface.OpState.{OpState}
-use Rattle.rules_next.specs.declared.interface.OpState.TheVariants as state
-use Rattle.rules_next.specs.declared.interface.OpEvent.{OpEvent}
-use Rattle.rules_next.specs.declared.interface.OpEvent.TheVariants as happens
-use Rattle.rules_next.specs.declared.interface.StateEntry.{StateEntry}
+use Rattle.rules.specs.declared.interface.OpEvent.{OpEvent}
+use Rattle.rules.specs.declared.interface.OpEvent.TheVariants as happens
+use Rattle.rules.specs.declared.interface.StateEntry.{StateEntry}
 use Rattle.rules_next.specs.declared.interface.Fault.{Fault}
 use Rattle.rules_next.specs.declared.interface.Fault.TheVariants as fault
-use Rattle.rules_next.specs.States.{moved}
+use Rattle.rules.specs.States.{moved}
 use Rattle.rules_next.specs.Meaning.{Meaning}
-use Rattle.rules_next.specs.Histories.{History, recorded, live_only}
-use Rattle.rules_next.specs.Setting.{Env, real, same_op, inserted}
-
--- a block and its argument that is asked about next
-pub record Pending : Type 0 where
-  pub block : BlockId
-  pub next : ℕ
-
-pub record Memory : Type 0 where
-  pub worklist : List OpId
-  pub pending : List Pending
-  -- by slot
-  pub states : ℕ → StateEntry
-  pub histories : List History
-
--- how many entries and pending blocks there is memory for
-pub record Room : Type 0 where
-  pub entries : ℕ
-  pub blocks : ℕ
+use Rattle.rules.specs.Histories.{History, recorded, live_only}
+use Rattle.rules.specs.Setting.{Env, inserted}
+use Rattle.rules_next.specs.Setting.{real}
+use Rattle.rules.specs.Driver.{Memory, Room, model_of, kept_state, marks_of, with_states, with_histories, with_pending, is_hand}
 
 pub record World (C : Type 0) : Type 0 where
   pub env : Env C
@@ -53,52 +33,12 @@ pub record World (C : Type 0) : Type 0 where
   pub changed : Bool
   pub room : Room
 
-abbrev pub model_of : {C : Type 0} → Env C → Model
-model_of e = e.world.model
-
--- the state that is kept of an operation, none where the slot keeps that of another
-abbrev pub of_generation : StateEntry → ℕ → OpState
-of_generation k g = cond (k.generation == g) k.state state.Unmarked
-
-abbrev pub kept_state : (ℕ → StateEntry) → OpId → OpState
-kept_state ks o = of_generation (ks o.slot) o.generation
-
--- one that is not live is erased
-abbrev pub state_of : Model → (ℕ → StateEntry) → OpId → OpState
-state_of m ks o = cond (is_some (find_op m o)) (kept_state ks o) state.Erased
-
 -- Each of the 512 slots keeps the state of what lives there; one that is dead is noted only where its slot still keeps its state.
 abbrev pub notable : Model → (ℕ → StateEntry) → OpId → Bool
 notable m ks o = is_some (find_op m o) || ((ks o.slot).generation == o.generation && nat_lt o.slot 512)
 
 abbrev pub noted : Model → (ℕ → StateEntry) → OpId → OpEvent → ℕ → StateEntry
 noted m ks o e = cond (notable m ks o) (put ks o.slot (record { generation = o.generation; state = moved (kept_state ks o) e })) ks
-
-abbrev pub mark_of : OpState → Mark
-mark_of state.Unmarked = unmarked
-mark_of state.Queued = queued
-mark_of state.Rewritten = rewritten
-mark_of state.SetAside = aside
-mark_of state.Erased = aside
-
-abbrev pub marks_of : (ℕ → StateEntry) → OpId → Mark
-marks_of ks o = mark_of (kept_state ks o)
-
-abbrev pub is_queued : OpState → Bool
-is_queued state.Unmarked = false
-is_queued state.Queued = true
-is_queued state.Rewritten = false
-is_queued state.SetAside = false
-is_queued state.Erased = false
-
--- the chain of first due definers from x on, followed for so many links
-abbrev pub linked : {A : Type 0} → mathlib_option.Option A → (A → List A) → List A
-linked mathlib_option.none rest = []
-linked (mathlib_option.some y) rest = y ∷ rest y
-
-abbrev pub chain : {A : Type 0} → (A → mathlib_option.Option A) → ℕ → A → List A
-chain next zero x = []
-chain next (suc n) x = linked (next x) (chain next n)
 
 -- A batch at work: what the driver keeps, how many it queued, and what happened; and why it ended, if it did.
 pub record Load {C : Type 0} (M : Meaning C) : Type 0 where
@@ -109,16 +49,6 @@ pub record Load {C : Type 0} (M : Meaning C) : Type 0 where
 pub record Handled {C : Type 0} (M : Meaning C) : Type 0 where
   pub load : Load M
   pub fault : Option Fault
-
--- the memory with other states, histories, entries or pending blocks
-abbrev pub with_states : Memory → (ℕ → StateEntry) → Memory
-with_states y ks = record { worklist = y.worklist; pending = y.pending; states = ks; histories = y.histories }
-
-abbrev pub with_histories : Memory → List History → Memory
-with_histories y hs = record { worklist = y.worklist; pending = y.pending; states = y.states; histories = hs }
-
-abbrev pub with_pending : Memory → List Pending → Memory
-with_pending y ps = record { worklist = y.worklist; pending = ps; states = y.states; histories = y.histories }
 
 -- every operation recorded as erased is marked so
 abbrev pub mark_erased : Model → (ℕ → StateEntry) → RecorderEvent → ℕ → StateEntry
@@ -134,11 +64,6 @@ mark_erased m ks (event.UnlinkedOperation o p) = ks
 abbrev pub mark_all_erased : Model → (ℕ → StateEntry) → List RecorderEvent → ℕ → StateEntry
 mark_all_erased m ks [] = ks
 mark_all_erased m ks (e ∷ es) = mark_all_erased m (mark_erased m ks e) es
-
--- the operation in hand was counted when it was queued
-abbrev pub is_hand : Option OpId → OpId → Bool
-is_hand None o = false
-is_hand (Some x) o = same_op x o
 
 module _ {C : Type 0} (M : Meaning C) where
   abbrev pub fine : Load M → Handled M
@@ -210,12 +135,3 @@ module _ {C : Type 0} (M : Meaning C) where
       and_then (record_types (record { memory = with_states l.memory (mark_all_erased (model_of e) l.memory.states es); queued = l.queued; moments = l.moments }) es)
       (λ k. and_then (meet_nodes e room hand k (inserted es))
       (λ j. fine (forget_dead (model_of e) j)))
-
--- the argument that a pending block is asked about
-abbrev pub argument : Pending → Value
-argument p = record { definer = definer.Block p.block; index = p.next }
-
--- front pending blocks that are not live or have no further argument are dropped
-abbrev pub shed : Model → List Pending → List Pending
-shed m [] = []
-shed m (p ∷ ps) = cond (is_value m (argument p)) (p ∷ ps) (shed m ps)

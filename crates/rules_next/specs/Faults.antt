@@ -1,11 +1,9 @@
 -- The numbers of the driver's faults, and where each comes from.
 use Rattle.std.specs.Prelude.{ℕ}
-use Rattle.model.specs.declared.refusal.Refusal.{Refusal}
-use Rattle.model.specs.declared.refusal.Refusal.TheVariants.{NoSlot, TooMany, NotLive, PointUnset, InBlock, NoBlock, Inside, CountsDiffer, StillUsed, OwnValue, RecordsFull}
 use Rattle.rules_next.specs.declared.interface.Fault.{Fault}
 use Rattle.rules_next.specs.declared.interface.Fault.TheVariants as fault
-use Rattle.rules_next.specs.declared.interface.Layer.{Layer}
-use Rattle.rules_next.specs.declared.interface.Layer.TheVariants as layer
+use Rattle.rules.specs.declared.interface.Layer.{Layer}
+use Rattle.rules.specs.declared.interface.Layer.TheVariants as layer
 
 abbrev pub number_of : Fault → ℕ
 number_of fault.NotLive = 3
@@ -15,19 +13,6 @@ number_of fault.Circle = 14
 number_of fault.Full = 15
 number_of fault.HistoryFull = 16
 number_of (fault.Conversion f) = 17
-
-abbrev pub layer_of_refusal : Refusal → Layer
-layer_of_refusal NoSlot = layer.Store
-layer_of_refusal TooMany = layer.Store
-layer_of_refusal NotLive = layer.Rewriter
-layer_of_refusal PointUnset = layer.Rewriter
-layer_of_refusal InBlock = layer.Rewriter
-layer_of_refusal NoBlock = layer.Rewriter
-layer_of_refusal Inside = layer.Rewriter
-layer_of_refusal CountsDiffer = layer.Rewriter
-layer_of_refusal StillUsed = layer.Rewriter
-layer_of_refusal OwnValue = layer.Rewriter
-layer_of_refusal RecordsFull = layer.Rewriter
 
 abbrev pub layer_of : Fault → Layer
 layer_of fault.NotLive = layer.Driver

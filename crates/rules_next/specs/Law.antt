@@ -10,15 +10,18 @@ use Rattle.calls.specs.After.{after}
 use Rattle.law.specs.Lists.{In, Apart, member}
 use Rattle.law.specs.Machine.{due}
 use Rattle.law.specs.Law.{rewrites_of, mets_of, ever_of, last_answer}
-use Rattle.rules_next.specs.declared.interface.IRStatus.{IRStatus}
-use Rattle.rules_next.specs.declared.interface.Answer.TheVariants as answer
+use Rattle.rules.specs.declared.interface.IRStatus.{IRStatus}
+use Rattle.rules.specs.declared.interface.Answer.TheVariants as answer
 use Rattle.rules_next.specs.declared.interface.Fault.TheVariants as fault
 use Rattle.rules_next.specs.declared.interface.Failure.{Failure}
 use Rattle.rules_next.specs.declared.interface.Counts.{Counts}
 use Rattle.rules_next.specs.declared.interface.Report.{Report}
-use Rattle.rules_next.specs.Meaning.{Meaning, Plan}
-use Rattle.rules_next.specs.Setting.{real, Good, aimed, definers_in, inserted, ops_among}
-use Rattle.rules_next.specs.Driver.{World, Room, model_of, marks_of}
+use Rattle.rules.specs.Meaning.{Plan}
+use Rattle.rules_next.specs.Meaning.{Meaning}
+use Rattle.rules.specs.Setting.{Good, aimed, definers_in, inserted, ops_among}
+use Rattle.rules_next.specs.Setting.{real}
+use Rattle.rules.specs.Driver.{Room, model_of, marks_of}
+use Rattle.rules_next.specs.Driver.{World}
 use Rattle.rules_next.specs.Called.{Past, Called, Amid}
 use Rattle.rules_next.specs.Rules.{Told, Step, Fails, Ran, Begun, Takes, state_in, convertible, first_one, operand_types, at_op, clear_env}
 

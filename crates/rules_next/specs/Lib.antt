@@ -1,4 +1,3 @@
-pub mod States
 pub mod Faults
 pub mod Histories
 pub mod Meaning

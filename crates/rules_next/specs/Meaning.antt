@@ -2,21 +2,11 @@
 use Rattle.std.specs.Prelude.{◌≡◌, ℕ, Bool, true, List, Result}
 use Rattle.model.specs.declared.ids.OpId.{OpId}
 use Rattle.model.specs.Model.{Model}
-use Rattle.calls.specs.World.{World, Call, Pick}
+use Rattle.calls.specs.World.{World, Pick}
 use Rattle.calls.specs.After.{after, CouldAll}
-use Rattle.rules_next.specs.declared.interface.ConversionFault.{ConversionFault}
-use Rattle.rules_next.specs.Histories.{History}
-
--- what is answered about a type: a type or a fault, and the conversion's next value
-pub record Converted (C : Type 0) : Type 0 where
-  pub answer : Result ℕ ConversionFault
-  pub next : C
-
--- what a rewrite does: its calls, the conversion's next value, and whether it ends well
-pub record Plan (C : Type 0) : Type 0 where
-  pub calls : List Call
-  pub next : C
-  pub answer : Result (Unit {0}) ConversionFault
+use Rattle.rules.specs.declared.interface.ConversionFault.{ConversionFault}
+use Rattle.rules.specs.Histories.{History}
+use Rattle.rules.specs.Meaning.{Converted, Plan}
 
 pub record Meaning (C : Type 0) : Type 0 where
   -- is the operation convertible, or the type?

@@ -5,14 +5,15 @@ use Rattle.calls.specs.World.{Pick}
 use Rattle.law.specs.Lists.{In, Follows}
 use Rattle.law.specs.Machine.{asked}
 use Rattle.law.specs.Law.{rewrites_of}
-use Rattle.rules_next.specs.declared.interface.Fate.TheVariants as fate
-use Rattle.rules_next.specs.declared.interface.IRStatus.{IRStatus}
-use Rattle.rules_next.specs.declared.interface.Answer.TheVariants as answer
+use Rattle.rules.specs.declared.interface.Fate.TheVariants as fate
+use Rattle.rules.specs.declared.interface.IRStatus.{IRStatus}
+use Rattle.rules.specs.declared.interface.Answer.TheVariants as answer
 use Rattle.rules_next.specs.declared.interface.Fault.TheVariants as fault
 use Rattle.rules_next.specs.declared.interface.Counts.{Counts}
 use Rattle.rules_next.specs.declared.interface.Report.{Report}
 use Rattle.rules_next.specs.Meaning.{Meaning}
-use Rattle.rules_next.specs.Driver.{World, Room, model_of}
+use Rattle.rules.specs.Driver.{Room, model_of}
+use Rattle.rules_next.specs.Driver.{World}
 use Rattle.rules_next.specs.Rules.{Told, Step, Fails, Ran, Takes, convertible, first_one, one_record, at_op, has_work}
 use Rattle.rules_next.specs.Law.{Moves, NoneDue, Tries, plan_of, left_by}
 

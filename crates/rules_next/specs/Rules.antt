@@ -6,34 +6,39 @@ use Rattle.model.specs.declared.ids.IRNode.TheVariants as node
 use Rattle.model.specs.Model.{Model, find_op, type_of}
 use Rattle.model.specs.Erasing.{operands_of}
 use Rattle.model.specs.Walk.{walk}
-use Rattle.calls.specs.World.{Pick, set_type, done, refused}
+use Rattle.calls.specs.World.{Pick, set_type, done}
 use Rattle.calls.specs.Perform.{Outcome, perform}
 use Rattle.calls.specs.World as calls
 use Rattle.law.specs.Lists.{member}
 use Rattle.law.specs.Machine.{Moment, asked, rewrote, dues, first_due, fresh, ask_all, ask_along, queue_each}
-use Rattle.rules_next.specs.declared.interface.Phase.{Phase}
-use Rattle.rules_next.specs.declared.interface.Phase.TheVariants as phase
-use Rattle.rules_next.specs.declared.interface.OpEvent.{OpEvent}
-use Rattle.rules_next.specs.declared.interface.OpEvent.TheVariants as happens
-use Rattle.rules_next.specs.declared.interface.StateEntry.{StateEntry}
-use Rattle.rules_next.specs.declared.interface.OpState.TheVariants as state
-use Rattle.rules_next.specs.declared.interface.Fate.{Fate}
-use Rattle.rules_next.specs.declared.interface.Fate.TheVariants as fate
-use Rattle.rules_next.specs.declared.interface.TrailRecord.{TrailRecord}
-use Rattle.rules_next.specs.declared.interface.IRStatus.{IRStatus}
-use Rattle.rules_next.specs.declared.interface.IRStatus.TheVariants as status
-use Rattle.rules_next.specs.declared.interface.Answer.{Answer}
-use Rattle.rules_next.specs.declared.interface.Answer.TheVariants as answer
-use Rattle.rules_next.specs.declared.interface.ConversionFault.{ConversionFault}
+use Rattle.rules.specs.declared.interface.Phase.{Phase}
+use Rattle.rules.specs.declared.interface.Phase.TheVariants as phase
+use Rattle.rules.specs.declared.interface.OpEvent.{OpEvent}
+use Rattle.rules.specs.declared.interface.OpEvent.TheVariants as happens
+use Rattle.rules.specs.declared.interface.StateEntry.{StateEntry}
+use Rattle.rules.specs.declared.interface.OpState.TheVariants as state
+use Rattle.rules.specs.declared.interface.Fate.{Fate}
+use Rattle.rules.specs.declared.interface.Fate.TheVariants as fate
+use Rattle.rules.specs.declared.interface.TrailRecord.{TrailRecord}
+use Rattle.rules.specs.declared.interface.IRStatus.{IRStatus}
+use Rattle.rules.specs.declared.interface.IRStatus.TheVariants as status
+use Rattle.rules.specs.declared.interface.Answer.{Answer}
+use Rattle.rules.specs.declared.interface.Answer.TheVariants as answer
+use Rattle.rules.specs.declared.interface.ConversionFault.{ConversionFault}
 use Rattle.rules_next.specs.declared.interface.Fault.{Fault}
 use Rattle.rules_next.specs.declared.interface.Fault.TheVariants as fault
 use Rattle.rules_next.specs.declared.interface.Failure.{Failure}
 use Rattle.rules_next.specs.declared.interface.Counts.{Counts}
 use Rattle.rules_next.specs.declared.interface.Report.{Report}
-use Rattle.rules_next.specs.Meaning.{Meaning, Converted, Rewrote}
-use Rattle.rules_next.specs.Histories.{History, history_of}
-use Rattle.rules_next.specs.Setting.{Env, real, taken_out, aimed, definers_in}
-use Rattle.rules_next.specs.Driver.{Pending, Memory, Room, World, Handled, model_of, state_of, noted, marks_of, is_queued, chain, handle, meet_nodes, argument, shed}
+use Rattle.rules.specs.Meaning.{Converted}
+use Rattle.rules_next.specs.Meaning.{Meaning, Rewrote}
+use Rattle.rules.specs.Histories.{History}
+use Rattle.rules_next.specs.Histories.{history_of}
+use Rattle.rules.specs.Setting.{Env, taken_out, aimed, definers_in}
+use Rattle.rules_next.specs.Setting.{real}
+use Rattle.rules.specs.Driver.{Pending, Memory, Room, model_of, state_of, marks_of, is_queued, chain, argument, shed}
+use Rattle.rules_next.specs.Driver.{World, Handled, noted, handle, meet_nodes}
+use Rattle.rules.specs.Rules.{some_record, no_pick, with_lists}
 
 -- What happened: moments, records of the trail, and the slots that rewrites picked.
 pub record Told {C : Type 0} (M : Meaning C) : Type 0 where
@@ -60,21 +65,10 @@ with_queued c n = record { queued = n; taken = c.taken; rewritten = c.rewritten;
 abbrev pub no_counts : Counts
 no_counts = record { queued = 0; taken = 0; rewritten = 0; aside = 0; waits = 0; stale = 0; questions = 0 }
 
-abbrev pub some_record : {X : Type 0} → List X → Bool
-some_record [] = false
-some_record (e ∷ es) = true
-
--- a call that makes nothing picks no slot
-abbrev pub no_pick : Pick
-no_pick = record { op = 0; regions = []; block = 0 }
-
 -- each event happens to each operation
 abbrev pub noted_all : Model → (ℕ → StateEntry) → List OpId → OpEvent → ℕ → StateEntry
 noted_all m ks [] e = ks
 noted_all m ks (o ∷ os) e = noted m (noted_all m ks os e) o e
-
-abbrev pub with_lists : Memory → List OpId → (ℕ → StateEntry) → Memory
-with_lists y os ks = record { worklist = os; pending = y.pending; states = ks; histories = y.histories }
 
 -- begun, not closed, and with the memory of the beginning
 abbrev pub is_begun : Phase → Bool

@@ -3,7 +3,8 @@ use Rattle.std.specs.Prelude.{length}
 use Rattle.law.specs.Machine.{State}
 use Rattle.rules_next.specs.Meaning.{Meaning}
 use Rattle.rules_next.specs.Setting.{real}
-use Rattle.rules_next.specs.Driver.{World, model_of, marks_of, shed}
+use Rattle.rules.specs.Driver.{model_of, marks_of, shed}
+use Rattle.rules_next.specs.Driver.{World}
 
 -- pending blocks with nothing to ask do not count
 abbrev pub view : {C : Type 0} (M : Meaning C) → World C → State (real M)

@@ -1,92 +1,10 @@
 //! What the driver keeps and answers.
 ghost use Rattle.std.specs.Prelude.{◌≡◌};
-ghost use Rattle.rules_next.specs.Faults.{number_of, layer_of, layer_of_refusal};
-ghost use Rattle.rules_next.specs.States.{moved};
+ghost use Rattle.rules_next.specs.Faults.{number_of, layer_of};
 
-use model::ids::{IRNode, OpId};
-use model::refusal::Refusal;
+use model::ids::IRNode;
 
-/// How far a conversion has come.
-#[derive(Clone, Copy)]
-pub enum Phase {
-    NeverBegun,
-    Open,
-    Done,
-    Closed,
-}
-
-/// The state of an operation. One that is not live is erased, whatever is kept of it.
-#[derive(Clone, Copy)]
-pub enum OpState {
-    Unmarked,
-    Queued,
-    Rewritten,
-    SetAside,
-    Erased,
-}
-
-/// What happens to an operation.
-#[derive(Clone, Copy)]
-pub enum OpEvent {
-    Taken,
-    Queued,
-    SetAside,
-    Erased,
-    Rewritten,
-}
-
-impl OpState {
-    /// The state after the event.
-    pub fn moved(self, event: OpEvent) -> OpState
-        ensures { result ≡ moved self event }
-    {
-        match (self, event) {
-            (OpState::Queued, OpEvent::Taken) => OpState::Unmarked,
-            (OpState::Unmarked, OpEvent::Queued) => OpState::Queued,
-            (OpState::Unmarked, OpEvent::SetAside) => OpState::SetAside,
-            (_, OpEvent::Erased) => OpState::Erased,
-            (_, OpEvent::Rewritten) => OpState::Rewritten,
-            (state, _) => state,
-        }
-    }
-}
-
-/// What is kept at a slot: the state of the operation of this generation.
-#[derive(Clone, Copy)]
-pub struct StateEntry {
-    pub generation: u32,
-    pub state: OpState,
-}
-
-/// What became of an entry of the worklist.
-#[derive(Clone, Copy)]
-pub enum Fate {
-    Rewritten,
-    SetAside,
-    Waits,
-    Stale,
-}
-
-/// A record of the trail.
-#[derive(Clone, Copy)]
-pub struct TrailRecord {
-    pub operation: OpId,
-    pub fate: Fate,
-}
-
-/// Whether a record was made since the beginning.
-#[derive(Clone, Copy)]
-pub enum IRStatus {
-    Changed,
-    Unchanged,
-}
-
-/// What a run comes to.
-#[derive(Clone, Copy)]
-pub enum Answer {
-    Done(IRStatus),
-    Stopped,
-}
+pub use rules::interface::{Answer, ConversionFault, Fate, IRStatus, Layer, OpEvent, OpState, Phase, StateEntry, TrailRecord};
 
 /// What is counted since the beginning.
 #[derive(Clone, Copy, Debug, PartialEq, Eq, Default)]
@@ -101,13 +19,6 @@ pub struct Counts {
     pub stale: u64,
     /// Questions about the types of block arguments.
     pub questions: u64,
-}
-
-/// A conversion's own number, and the refusal that caused the fault, if one did.
-#[derive(Clone, Copy)]
-pub struct ConversionFault {
-    pub number: u16,
-    pub refusal: Option<Refusal>,
 }
 
 /// Why the driver refuses or closes.
@@ -127,15 +38,6 @@ pub enum Fault {
     HistoryFull,
     /// The conversion's fault.
     Conversion(ConversionFault),
-}
-
-/// Where a fault comes from.
-#[derive(Clone, Copy)]
-pub enum Layer {
-    Store,
-    Rewriter,
-    Conversion,
-    Driver,
 }
 
 /// A fault, and the operation or block that was in hand.
@@ -175,19 +77,6 @@ impl Fault {
         match self {
             Fault::Conversion(_) => Layer::Conversion,
             _ => Layer::Driver,
-        }
-    }
-}
-
-impl Layer {
-    /// Where a refused call comes from: the store for want of slots and for counts, else the rewriter.
-    pub fn of_refusal(refusal: Refusal) -> Layer
-        ensures { result ≡ layer_of_refusal refusal }
-    {
-        match refusal {
-            Refusal::NoSlot => Layer::Store,
-            Refusal::TooMany => Layer::Store,
-            _ => Layer::Rewriter,
         }
     }
 }

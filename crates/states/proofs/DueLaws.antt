@@ -9,7 +9,7 @@ use Rattle.model.specs.Erasing.{operands_of}
 use Rattle.std.specs.Option.{option_map}
 use Rattle.std.specs.List.{slice_get}
 use Rattle.law.specs.Lists.{keep, first, then, member}
-use Rattle.rules_next.specs.Setting.{definer_of, definers_of}
+use Rattle.rules.specs.Setting.{definer_of, definers_of}
 
 pub keep_append : {A : Type 0} (p : A → Bool) (xs ys : List A) → keep p (xs ++ ys) ≡ keep p xs ++ keep p ys
 keep_append p [] ys = refl

@@ -9,7 +9,7 @@ use Rattle.model.specs.declared.ids.RegionId.{RegionId}
 use Rattle.model.specs.declared.ids.Region.{Region}
 use Rattle.model.specs.Model.{Model, Operation, find_op, find_region, block_id, region_id, parent_block_of, parent_region_of, bind, whether}
 use Rattle.model.specs.Sound.{Sound}
-use Rattle.rules_next.specs.Setting.{is_graph, in_graph}
+use Rattle.rules.specs.Setting.{is_graph, in_graph}
 
 abbrev graph_or : Option Bool → Bool
 graph_or g = unwrap_or g false

@@ -13,7 +13,7 @@ use Rattle.tables.specs.View.{view_op}
 use Rattle.store.specs.declared.store.Store.{Store}
 use Rattle.store.specs.Meaning.{meaning}
 use Rattle.store.proofs.GoodLaws.{ops_sized}
-use Rattle.rules_next.specs.Setting.{FewIn, Sized}
+use Rattle.rules.specs.Setting.{FewIn, Sized}
 
 pub row_few : {X : Type 0} {n : ℕ} (r : Row X n) → length (row_items r) ≤ n
 row_few r = omega (arith, length-take r.len r.items, r.within)

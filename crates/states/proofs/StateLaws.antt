@@ -4,7 +4,7 @@ use mathlib.Core.Path.{fun_ext}
 use Rattle.std.proofs.lemmas.List.{length-replicate, get_or_past, get_or-replicate}
 use Rattle.std.proofs.lemmas.Bool.{cases_lt}
 use Rattle.slots.specs.Cells.{Cell, found, under, Spent}
-use Rattle.rules_next.specs.declared.interface.StateEntry.{StateEntry}
+use Rattle.rules.specs.declared.interface.StateEntry.{StateEntry}
 use Rattle.states.specs.States.{fresh, unmarked_all}
 
 abbrev pub table : List StateEntry → ℕ → StateEntry

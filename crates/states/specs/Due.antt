@@ -3,7 +3,7 @@ use Rattle.std.specs.Prelude.{[], Some, None, Option}
 use Rattle.std.proofs.Math.Option as mathlib_option
 use Rattle.model.specs.declared.points.OpInsertionPoint.TheVariants as point
 use Rattle.model.specs.Model.{Model}
-use Rattle.rules_next.specs.Setting.{Env}
+use Rattle.rules.specs.Setting.{Env}
 
 abbrev pub at : {C : Type 0} → Model → C → Env C
 at m c = record { world = record { model = m; point = point.Unset; records = [] }; value = c }

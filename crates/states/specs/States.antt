@@ -1,7 +1,7 @@
 -- What the table of states says.
 use Rattle.std.specs.Prelude.{ℕ, vec_items, slice_index_or}
-use Rattle.rules_next.specs.declared.interface.StateEntry.{StateEntry}
-use Rattle.rules_next.specs.declared.interface.OpState.TheVariants as state
+use Rattle.rules.specs.declared.interface.StateEntry.{StateEntry}
+use Rattle.rules.specs.declared.interface.OpState.TheVariants as state
 use Rattle.states.specs.declared.states.States.{States}
 
 abbrev pub fresh : StateEntry

@@ -6,8 +6,9 @@ ghost use Rattle.model.specs.Model.{find_op};
 ghost use Rattle.store.specs.Meaning.{meaning as model};
 ghost use Rattle.law.specs.Lists.{keep, member};
 ghost use Rattle.law.specs.Machine.{due, dues, first_due};
-ghost use Rattle.rules_next.specs.Setting.{real, in_graph, definer_of};
-ghost use Rattle.rules_next.specs.Driver.{marks_of};
+ghost use Rattle.rules.specs.Setting.{in_graph, definer_of};
+ghost use Rattle.rules_next.specs.Setting.{real};
+ghost use Rattle.rules.specs.Driver.{marks_of};
 ghost use Rattle.states.specs.States.{states_in};
 ghost use Rattle.states.specs.Due.{at, plain};
 

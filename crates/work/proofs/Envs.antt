@@ -7,8 +7,9 @@ use Rattle.model.specs.declared.points.OpInsertionPoint.{OpInsertionPoint}
 use Rattle.model.specs.Model.{Model}
 use Rattle.calls.specs.declared.events.RecorderEvent.{RecorderEvent}
 use Rattle.rules_next.specs.Meaning.{Meaning}
-use Rattle.rules_next.specs.Setting.{Env, inserted}
-use Rattle.rules_next.specs.Driver.{Room, Load, Handled, with_states, mark_all_erased, fine, and_then, record_types, meet_node, meet_nodes, forget_dead, handle}
+use Rattle.rules.specs.Setting.{Env, inserted}
+use Rattle.rules.specs.Driver.{Room, with_states}
+use Rattle.rules_next.specs.Driver.{Load, Handled, mark_all_erased, fine, and_then, record_types, meet_node, meet_nodes, forget_dead, handle}
 use Rattle.states.specs.Due.{at}
 
 module _ {C : Type 0} (M : Meaning C) (m : Model) (c : C) (p : OpInsertionPoint) (es : List RecorderEvent) (room : Room) (hand : Option OpId) where

@@ -4,7 +4,8 @@ use Rattle.std.proofs.lemmas.List.{take_more, drop_more}
 use Rattle.model.specs.declared.ids.OpId.{OpId}
 use Rattle.law.specs.Machine.{Mark, queued, is_unmarked, fresh}
 use Rattle.rules_next.specs.Meaning.{Meaning}
-use Rattle.rules_next.specs.Setting.{real, same_op}
+use Rattle.rules.specs.Setting.{same_op}
+use Rattle.rules_next.specs.Setting.{real}
 use Rattle.work.specs.Waiting.{among, marked, fresh_ops}
 
 abbrev pub zero_op : OpId

@@ -9,9 +9,11 @@ use Rattle.law.specs.Machine.{Moment}
 use Rattle.rules_next.specs.declared.interface.Fault.{Fault}
 use Rattle.rules_next.specs.declared.interface.Fault.TheVariants as fault
 use Rattle.rules_next.specs.Meaning.{Meaning}
-use Rattle.rules_next.specs.Histories.{History, recorded, live_only}
-use Rattle.rules_next.specs.Setting.{Env, real, inserted}
-use Rattle.rules_next.specs.Driver.{Memory, Room, Load, Handled, model_of, with_histories, with_states, mark_all_erased, fine, stops, onward, and_then, keep_types, record_types, meet_nodes, forget_dead, handle}
+use Rattle.rules.specs.Histories.{History, recorded, live_only}
+use Rattle.rules.specs.Setting.{Env, inserted}
+use Rattle.rules_next.specs.Setting.{real}
+use Rattle.rules.specs.Driver.{Memory, Room, model_of, with_histories, with_states}
+use Rattle.rules_next.specs.Driver.{Load, Handled, mark_all_erased, fine, stops, onward, and_then, keep_types, record_types, meet_nodes, forget_dead, handle}
 use Rattle.work.specs.declared.work.Work.{Work}
 use Rattle.work.specs.Work.{memory_of, room_of, load_of, Leaves}
 use Rattle.work.specs.Batches.{Recorded, kept_or, record_all}

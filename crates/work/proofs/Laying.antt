@@ -6,7 +6,7 @@ use Rattle.model.specs.declared.ids.OpId.{OpId}
 use Rattle.model.specs.Model.{Model}
 use Rattle.queue.specs.declared.queue.Queue.{Queue}
 use Rattle.queue.specs.Contents.{contents, Within}
-use Rattle.rules_next.specs.declared.interface.OpEvent.TheVariants as happens
+use Rattle.rules.specs.declared.interface.OpEvent.TheVariants as happens
 use Rattle.rules_next.specs.Driver.{noted}
 use Rattle.rules_next.specs.Rules.{noted_all}
 use Rattle.states.specs.declared.states.States.{States}

@@ -9,7 +9,8 @@ use Rattle.law.specs.Machine.{Moment}
 use Rattle.rules_next.specs.declared.interface.Fault.{Fault}
 use Rattle.rules_next.specs.Meaning.{Meaning}
 use Rattle.rules_next.specs.Setting.{real}
-use Rattle.rules_next.specs.Driver.{Memory, Handled}
+use Rattle.rules.specs.Driver.{Memory}
+use Rattle.rules_next.specs.Driver.{Handled}
 use Rattle.work.specs.Work.{waiting, pendings, Leaves}
 
 -- one equation gives the three

@@ -8,7 +8,7 @@ use Rattle.model.specs.contracts.ids.OpIdPartialEq.TheImpl as op
 use Rattle.calls.specs.declared.events.RecorderEvent.{RecorderEvent}
 use Rattle.calls.specs.declared.events.RecorderEvent.TheVariants as event
 use Rattle.calls.specs.contracts.events.RecorderEventPartialEq.TheImpl as records
-use Rattle.rules_next.specs.Setting.{same_op, erases_block, block_erased}
+use Rattle.rules.specs.Setting.{same_op, erases_block, block_erased}
 use Rattle.work.specs.Waiting.{among}
 
 pub any_among : (os : List OpId) (o : OpId) → list_any (λ p. (op.ghosts).eq p o) os ≡ among os o

@@ -6,9 +6,11 @@ use Rattle.model.specs.declared.ids.IRNode.{IRNode}
 use Rattle.law.specs.Machine.{Moment}
 use Rattle.rules_next.specs.declared.interface.Fault.{Fault}
 use Rattle.rules_next.specs.Meaning.{Meaning}
-use Rattle.rules_next.specs.Histories.{History}
-use Rattle.rules_next.specs.Setting.{Env, real}
-use Rattle.rules_next.specs.Driver.{Memory, Room, Load, Handled, fine, stops, onward, and_then, meet_node, meet_nodes}
+use Rattle.rules.specs.Histories.{History}
+use Rattle.rules.specs.Setting.{Env}
+use Rattle.rules_next.specs.Setting.{real}
+use Rattle.rules.specs.Driver.{Memory, Room}
+use Rattle.rules_next.specs.Driver.{Load, Handled, fine, stops, onward, and_then, meet_node, meet_nodes}
 use Rattle.work.specs.declared.work.Work.{Work}
 use Rattle.work.specs.declared.work.lent.Lent.{Lent}
 use Rattle.work.specs.Lent.{Same}

@@ -5,8 +5,8 @@ use Rattle.model.specs.declared.ids.BlockId.{BlockId}
 use Rattle.calls.specs.declared.events.RecorderEvent.{RecorderEvent}
 use Rattle.rules_next.specs.declared.interface.Fault.{Fault}
 use Rattle.rules_next.specs.Meaning.{Meaning}
-use Rattle.rules_next.specs.Histories.{History, recorded}
-use Rattle.rules_next.specs.Setting.{Env}
+use Rattle.rules.specs.Histories.{History, recorded}
+use Rattle.rules.specs.Setting.{Env}
 use Rattle.rules_next.specs.Driver.{handle}
 use Rattle.work.specs.declared.work.Work.{Work}
 use Rattle.work.specs.Work.{memory_of, room_of, Fits, load_of, Leaves}

@@ -4,9 +4,10 @@ use Rattle.model.specs.declared.ids.OpId.{OpId}
 use Rattle.calls.specs.declared.events.RecorderEvent.{RecorderEvent}
 use Rattle.rules_next.specs.declared.interface.Fault.{Fault}
 use Rattle.rules_next.specs.Meaning.{Meaning}
-use Rattle.rules_next.specs.Histories.{History}
-use Rattle.rules_next.specs.Setting.{Env}
-use Rattle.rules_next.specs.Driver.{Room, Load, Handled}
+use Rattle.rules.specs.Histories.{History}
+use Rattle.rules.specs.Setting.{Env}
+use Rattle.rules.specs.Driver.{Room}
+use Rattle.rules_next.specs.Driver.{Load, Handled}
 use Rattle.work.specs.declared.work.lent.Lent.{Lent}
 use Rattle.work.specs.Work.{Met}
 use Rattle.work.specs.Batches.{HandledBy}

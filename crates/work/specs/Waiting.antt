@@ -2,7 +2,7 @@
 use Rattle.std.specs.Prelude.{ℕ, ◌+◌, Bool, false, cond, ◌||◌, List, [], ◌∷◌}
 use Rattle.model.specs.declared.ids.OpId.{OpId}
 use Rattle.law.specs.Machine.{Mark, queued, is_unmarked}
-use Rattle.rules_next.specs.Setting.{same_op}
+use Rattle.rules.specs.Setting.{same_op}
 
 abbrev pub among : List OpId → OpId → Bool
 among [] o = false

@@ -6,9 +6,10 @@ use Rattle.queue.specs.Contents.{contents, Within}
 use Rattle.law.specs.Machine.{Moment}
 use Rattle.rules_next.specs.declared.interface.Fault.{Fault}
 use Rattle.rules_next.specs.Meaning.{Meaning}
-use Rattle.rules_next.specs.Histories.{History}
+use Rattle.rules.specs.Histories.{History}
 use Rattle.rules_next.specs.Setting.{real}
-use Rattle.rules_next.specs.Driver.{Pending, Memory, Room, Load, Handled}
+use Rattle.rules.specs.Driver.{Pending, Memory, Room}
+use Rattle.rules_next.specs.Driver.{Load, Handled}
 use Rattle.states.specs.States.{states_in}
 use Rattle.work.specs.declared.work.Work.{Work}
 

@@ -2,7 +2,7 @@
 ghost use Rattle.std.specs.Prelude.{◌≡◌};
 ghost use Rattle.std.specs.Option.{option_map};
 ghost use Rattle.row.specs.Items.{row_items};
-ghost use Rattle.rules_next.specs.Histories.{types_had};
+ghost use Rattle.rules.specs.Histories.{types_had};
 ghost use Rattle.histories.specs.Kept.{histories};
 ghost use Rattle.conversion.specs.Info.{info_of, some_types, last_type, last_of_kind};
 

@@ -1,6 +1,6 @@
 //! Counting.
 ghost use Rattle.std.specs.Prelude.{◌≡◌, ◌+◌, ◌<◌, ◌≤◌, Some};
-ghost use Rattle.rules_next.specs.declared.interface.Phase.TheVariants.{Closed};
+ghost use Rattle.rules.specs.declared.interface.Phase.TheVariants.{Closed};
 ghost use Rattle.rules_next.specs.Rules.{took_one, fated, with_queued};
 ghost use Rattle.model.specs.declared.ids.IRNode.TheVariants.{Operation};
 ghost use Rattle.driver.specs.Counted.{Counted};

@@ -1,7 +1,7 @@
 //! What a record does to the histories.
 ghost use Rattle.std.specs.Prelude.{◌≡◌, ◌≤◌};
 ghost use Rattle.row.specs.Items.{row_items};
-ghost use Rattle.rules_next.specs.Histories.{put_types, drop_types, live_only};
+ghost use Rattle.rules.specs.Histories.{put_types, drop_types, live_only};
 ghost use Rattle.store.specs.Meaning.{meaning};
 ghost use Rattle.histories.specs.Kept.{size_with, is_kept};
 ghost use Rattle.histories.specs.Many.{kept};

@@ -1,7 +1,8 @@
 //! Making, and what values had.
 ghost use Rattle.std.specs.Prelude.{◌≡◌, ◌≤◌, [], map, length, IfOk};
 ghost use Rattle.row.specs.Items.{row_items};
-ghost use Rattle.rules_next.specs.Histories.{types_had, history_of};
+ghost use Rattle.rules.specs.Histories.{types_had};
+ghost use Rattle.rules_next.specs.Histories.{history_of};
 ghost use Rattle.histories.specs.Kept.{history, histories};
 ghost use Rattle.histories.specs.Many.{kept};
 

@@ -2,7 +2,7 @@
 ghost use Rattle.std.specs.Prelude.{◌≡◌, ◌≤◌, length, is_some, is_ok, if◌then◌else◌, nat_le};
 ghost use Rattle.std.specs.Option.{unwrap_or};
 ghost use Rattle.row.specs.Items.{row_items};
-ghost use Rattle.rules_next.specs.Histories.{types_had, drop_types, add_type, add_types, changed_type, gone_over, within_limits, recorded};
+ghost use Rattle.rules.specs.Histories.{types_had, drop_types, add_type, add_types, changed_type, gone_over, within_limits, recorded};
 ghost use Rattle.histories.specs.Kept.{size_with};
 ghost use Rattle.histories.specs.Many.{kept};
 

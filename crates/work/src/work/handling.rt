@@ -2,7 +2,7 @@
 ghost use Rattle.std.specs.Prelude.{◌≡◌, ◌+◌, ◌^◌, ◌<◌, length};
 ghost use Rattle.std.specs.Option.{option_to_list};
 ghost use Rattle.store.specs.Meaning.{meaning as model};
-ghost use Rattle.rules_next.specs.Setting.{block_erased, inserted_by, inserted};
+ghost use Rattle.rules.specs.Setting.{block_erased, inserted_by, inserted};
 ghost use Rattle.rules_next.specs.Driver.{mark_erased, mark_all_erased, meet_nodes};
 ghost use Rattle.states.specs.States.{states_in};
 ghost use Rattle.states.specs.Due.{at};

@@ -2,10 +2,10 @@
 ghost use Rattle.std.specs.Prelude.{◌≡◌, ◌≤◌, not, ◌&&◌, ◌++◌, length, is_ok, if◌then◌else◌, nat_le, IsOkUnless};
 ghost use Rattle.queue.specs.Contents.{contents, Within};
 ghost use Rattle.store.specs.Meaning.{meaning as model};
-ghost use Rattle.rules_next.specs.declared.interface.OpEvent.TheVariants.{Queued};
+ghost use Rattle.rules.specs.declared.interface.OpEvent.TheVariants.{Queued};
 ghost use Rattle.rules_next.specs.declared.interface.Fault.TheVariants.{Full};
 ghost use Rattle.law.specs.Machine.{is_unmarked};
-ghost use Rattle.rules_next.specs.Driver.{marks_of};
+ghost use Rattle.rules.specs.Driver.{marks_of};
 ghost use Rattle.rules_next.specs.Rules.{noted_all};
 ghost use Rattle.states.specs.States.{states_in};
 ghost use Rattle.work.specs.Waiting.{among, fresh_ops};

@@ -1,6 +1,6 @@
 use Rattle.std.proofs.Common.{◌≡◌, ◌+◌, ◌≤◌, length, drop}
 use Rattle.row.specs.Items.{row_items}
-use Rattle.rules_next.specs.Histories.{add_types}
+use Rattle.rules.specs.Histories.{add_types}
 use Rattle.histories.proofs.joining.add_types.Given as goal
 
 abbrev pub invariant-loop-ty : goal.invariant-loop-ty

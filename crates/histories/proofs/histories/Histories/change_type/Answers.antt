@@ -2,7 +2,7 @@ use Rattle.std.proofs.Common.{◌≡◌, ◌<◌, ◌≤◌, false, length, is_o
 use Rattle.std.proofs.lemmas.Bool.{le-leb, lt-leb}
 use Rattle.row.specs.Items.{row_items}
 use Rattle.row.proofs.Rows.{long}
-use Rattle.rules_next.specs.Histories.{types_had, add_type}
+use Rattle.rules.specs.Histories.{types_had, add_type}
 use Rattle.histories.specs.Kept.{size_with}
 use Rattle.histories.specs.Many.{kept}
 use Rattle.histories.proofs.Limits.{too_many_types, too_many_values, within_both}

@@ -2,7 +2,7 @@ use Rattle.std.proofs.Common.{not, vec_items, filter, ap, ◌∙◌, rules}
 use mathlib.Core.Path.{fun_ext}
 use Rattle.std.proofs.lemmas.Fn.{filter_same}
 use Rattle.model.specs.contracts.ids.ValuePartialEq.TheImpl.{ghosts}
-use Rattle.rules_next.specs.Histories.{History}
+use Rattle.rules.specs.Histories.{History}
 use Rattle.histories.specs.Kept.{histories, entries_of}
 use Rattle.histories.specs.Many.{kept}
 use Rattle.histories.proofs.Puts.{kept_histories}

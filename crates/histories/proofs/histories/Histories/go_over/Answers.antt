@@ -1,7 +1,7 @@
 use Rattle.std.proofs.Common.{◌≡◌, ◌<◌, ◌≤◌, false, length, is_ok, sym, ap, ◌∙◌, arith, rules}
 use Rattle.row.specs.Items.{row_items}
 use Rattle.row.proofs.Rows.{long}
-use Rattle.rules_next.specs.Histories.{types_had, drop_types, add_type, add_types}
+use Rattle.rules.specs.Histories.{types_had, drop_types, add_type, add_types}
 use Rattle.histories.specs.Many.{kept}
 use Rattle.histories.proofs.Limits.{too_many_types, too_many_values, within_both}
 use Rattle.histories.proofs.histories.Histories.go_over.Goals as goal

@@ -1,7 +1,7 @@
 use Rattle.std.proofs.Common.{◌≤◌, leb, vec_items, sym, ap, ◌∙◌, arith}
 use Rattle.std.proofs.lemmas.List.{length-map}
 use Rattle.std.proofs.lemmas.Bool.{le-leb}
-use Rattle.rules_next.specs.Histories.{drop_types}
+use Rattle.rules.specs.Histories.{drop_types}
 use Rattle.histories.specs.Kept.{history, size_with}
 use Rattle.histories.specs.Many.{kept}
 use Rattle.histories.proofs.Limits.{drop_none, room_left}

@@ -1,5 +1,6 @@
 use Rattle.std.proofs.Common.{ℕ, List, ap, ◌∙◌}
-use Rattle.rules_next.specs.Histories.{History, history_of}
+use Rattle.rules.specs.Histories.{History}
+use Rattle.rules_next.specs.Histories.{history_of}
 use Rattle.histories.specs.Kept.{histories}
 use Rattle.histories.proofs.Places.{types_read, types_unread}
 use Rattle.histories.proofs.histories.Histories.history_of.Goals as goal

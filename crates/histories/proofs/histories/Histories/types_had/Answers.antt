@@ -1,5 +1,5 @@
 use Rattle.std.proofs.Common.{length, vec_items, ap, ◌∙◌, arith}
-use Rattle.rules_next.specs.Histories.{types_had}
+use Rattle.rules.specs.Histories.{types_had}
 use Rattle.histories.specs.Kept.{histories}
 use Rattle.histories.proofs.Limits.{types_few}
 use Rattle.histories.proofs.histories.Histories.types_had.Goals as goal

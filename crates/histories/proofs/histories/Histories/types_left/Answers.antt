@@ -2,7 +2,7 @@ use Rattle.std.proofs.Common.{◌≡◌, true, false, [], sym, ◌∙◌, rules}
 use Rattle.std.proofs.lemmas.Bool.{cond-true, cond-false}
 use Rattle.row.specs.Items.{row_items}
 use Rattle.model.specs.Calls.{same_value}
-use Rattle.rules_next.specs.Histories.{types_had}
+use Rattle.rules.specs.Histories.{types_had}
 use Rattle.histories.specs.Many.{kept}
 use Rattle.histories.proofs.Limits.{types_left}
 use Rattle.model.proofs.Equal.{value_eq}

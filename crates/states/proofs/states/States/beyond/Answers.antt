@@ -4,7 +4,7 @@ use Rattle.row.specs.Items.{row_items}
 use Rattle.store.specs.Meaning.{meaning as model}
 use Rattle.law.specs.Machine.{dues, first_due}
 use Rattle.rules_next.specs.Setting.{real}
-use Rattle.rules_next.specs.Driver.{marks_of}
+use Rattle.rules.specs.Driver.{marks_of}
 use Rattle.states.specs.States.{states_in}
 use Rattle.states.specs.Due.{at, plain}
 use Rattle.states.proofs.DueLaws.{link_again, link_none, link_end, first_some, first_none}

@@ -3,7 +3,7 @@ use Rattle.store.specs.Meaning.{meaning as model}
 use Rattle.law.specs.Lists.{member}
 use Rattle.law.specs.Machine.{first_due}
 use Rattle.rules_next.specs.Setting.{real}
-use Rattle.rules_next.specs.Driver.{marks_of}
+use Rattle.rules.specs.Driver.{marks_of}
 use Rattle.states.specs.States.{states_in}
 use Rattle.states.specs.Due.{at}
 use Rattle.states.proofs.states.States.beyond.Given as goal

@@ -3,7 +3,7 @@ use Rattle.row.specs.Items.{row_items}
 use Rattle.store.specs.Meaning.{meaning as model}
 use Rattle.law.specs.Machine.{due}
 use Rattle.rules_next.specs.Setting.{real}
-use Rattle.rules_next.specs.Driver.{marks_of}
+use Rattle.rules.specs.Driver.{marks_of}
 use Rattle.states.specs.States.{states_in}
 use Rattle.states.specs.Due.{at}
 use Rattle.states.proofs.Limits.{operands_few}

@@ -3,8 +3,9 @@ use Rattle.row.specs.Items.{row_items}
 use Rattle.store.specs.Meaning.{meaning as model}
 use Rattle.law.specs.Lists.{keep}
 use Rattle.law.specs.Machine.{due}
-use Rattle.rules_next.specs.Setting.{real, definers_of}
-use Rattle.rules_next.specs.Driver.{marks_of}
+use Rattle.rules.specs.Setting.{definers_of}
+use Rattle.rules_next.specs.Setting.{real}
+use Rattle.rules.specs.Driver.{marks_of}
 use Rattle.states.specs.States.{states_in}
 use Rattle.states.specs.Due.{at}
 use Rattle.states.proofs.states.States.due_definers.Given as goal

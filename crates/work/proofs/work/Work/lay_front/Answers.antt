@@ -4,7 +4,7 @@ use Rattle.std.proofs.lemmas.Bool.{lt-leb, le-leb}
 use Rattle.queue.specs.Contents.{contents}
 use Rattle.queue.proofs.Lengths.{length_contents}
 use Rattle.store.specs.Meaning.{meaning as model}
-use Rattle.rules_next.specs.declared.interface.OpEvent.TheVariants as happens
+use Rattle.rules.specs.declared.interface.OpEvent.TheVariants as happens
 use Rattle.rules_next.specs.Rules.{noted_all}
 use Rattle.states.specs.States.{states_in}
 use Rattle.work.proofs.Laying.{lay_starts, lay_fits, lay_again, lay_ends, of_ok, sure}

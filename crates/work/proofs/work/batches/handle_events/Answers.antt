@@ -3,7 +3,7 @@ use Rattle.std.proofs.lemmas.Result.{err_from_is_err_and}
 use Rattle.store.specs.Meaning.{meaning as model}
 use Rattle.queue.specs.Contents.{contents}
 use Rattle.histories.specs.Many.{kept}
-use Rattle.rules_next.specs.Setting.{inserted}
+use Rattle.rules.specs.Setting.{inserted}
 use Rattle.rules_next.specs.Driver.{meet_nodes}
 use Rattle.states.specs.Due.{at}
 use Rattle.work.specs.declared.work.Work.{Work}

@@ -2,7 +2,7 @@ use Rattle.std.proofs.Common.{◌≡◌, ◌+◌, true, false, get_or, drop, is_
 use Rattle.std.proofs.lemmas.List.{drop_more, drop_all}
 use Rattle.histories.specs.Many.{kept}
 use Rattle.work.specs.Batches.{Recorded, record_all}
-use Rattle.rules_next.specs.Histories.{recorded}
+use Rattle.rules.specs.Histories.{recorded}
 use Rattle.work.proofs.Handles.{zero_event, record_stops, record_goes, none_kept}
 use Rattle.work.proofs.work.batches.record_all.Goals as goal
 

@@ -1,6 +1,6 @@
 use Rattle.std.proofs.Common.{◌+◌, cond, take, sym, ap, ◌∙◌, add-zero, arith}
 use Rattle.std.proofs.lemmas.List.{drop_all}
-use Rattle.rules_next.specs.Driver.{marks_of}
+use Rattle.rules.specs.Driver.{marks_of}
 use Rattle.states.specs.States.{states_in}
 use Rattle.work.specs.Waiting.{fresh_ops}
 use Rattle.work.proofs.Fresh.{marked_all, fresh_more}

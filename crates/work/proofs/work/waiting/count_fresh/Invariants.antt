@@ -1,5 +1,5 @@
 use Rattle.std.proofs.Common.{◌≡◌, ◌+◌, ◌≤◌, take, drop}
-use Rattle.rules_next.specs.Driver.{marks_of}
+use Rattle.rules.specs.Driver.{marks_of}
 use Rattle.states.specs.States.{states_in}
 use Rattle.work.specs.Waiting.{fresh_ops}
 use Rattle.work.proofs.Fresh.{marked_all}

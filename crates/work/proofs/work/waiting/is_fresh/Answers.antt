@@ -1,6 +1,6 @@
 use Rattle.std.proofs.Common.{not, ◌&&◌, sym, ap, ◌∙◌}
 use Rattle.law.specs.Machine.{is_unmarked}
-use Rattle.rules_next.specs.Driver.{marks_of}
+use Rattle.rules.specs.Driver.{marks_of}
 use Rattle.states.specs.States.{states_in}
 use Rattle.work.proofs.Same.{any_among}
 use Rattle.work.proofs.work.waiting.is_fresh.Goals as goal

@@ -6,7 +6,7 @@ use Rattle.states.specs.Due.{at}
 use Rattle.work.specs.Work.{Met}
 use Rattle.std.proofs.lemmas.Result.{err_from_is_err_and}
 use Rattle.std.specs.List.{flat_map}
-use Rattle.rules_next.specs.Setting.{inserted_by, inserted}
+use Rattle.rules.specs.Setting.{inserted_by, inserted}
 use Rattle.work.proofs.Handles.{zero_event}
 use Rattle.work.proofs.Turning.{joined, Turning, starts, again, fails, ends}
 use Rattle.work.proofs.work.lent.Lent.meet_inserted.Goals as goal

@@ -1,7 +1,7 @@
 use Rattle.std.proofs.Common.{drop}
 use Rattle.std.specs.List.{flat_map}
 use Rattle.store.specs.Meaning.{meaning as model}
-use Rattle.rules_next.specs.Setting.{inserted_by, inserted}
+use Rattle.rules.specs.Setting.{inserted_by, inserted}
 use Rattle.rules_next.specs.Driver.{meet_nodes}
 use Rattle.states.specs.Due.{at}
 use Rattle.work.specs.Lent.{Same}
