@@ -7,7 +7,7 @@ use model::ids::{IRNode, OpId};
 use model::refusal::Refusal;
 
 /// How far a conversion has come.
-#[derive(Clone, Copy)]
+#[derive(Clone, Copy, Debug, PartialEq, Eq)]
 pub enum Phase {
     NeverBegun,
     Open,
@@ -16,8 +16,9 @@ pub enum Phase {
 }
 
 /// The state of an operation. One that is not live is erased, whatever is kept of it.
-#[derive(Clone, Copy)]
+#[derive(Clone, Copy, Debug, Default, PartialEq, Eq)]
 pub enum OpState {
+    #[default]
     Unmarked,
     Queued,
     Rewritten,
@@ -26,7 +27,7 @@ pub enum OpState {
 }
 
 /// What happens to an operation.
-#[derive(Clone, Copy)]
+#[derive(Clone, Copy, Debug, PartialEq, Eq)]
 pub enum OpEvent {
     Taken,
     Queued,
@@ -52,14 +53,14 @@ impl OpState {
 }
 
 /// What is kept at a slot: the state of the operation of this generation.
-#[derive(Clone, Copy)]
+#[derive(Clone, Copy, Debug, Default, PartialEq, Eq)]
 pub struct StateEntry {
     pub generation: u32,
     pub state: OpState,
 }
 
 /// What became of an entry of the worklist.
-#[derive(Clone, Copy)]
+#[derive(Clone, Copy, Debug, PartialEq, Eq)]
 pub enum Fate {
     Rewritten,
     SetAside,
@@ -68,35 +69,35 @@ pub enum Fate {
 }
 
 /// A record of the trail.
-#[derive(Clone, Copy)]
+#[derive(Clone, Copy, Debug, PartialEq, Eq)]
 pub struct TrailRecord {
     pub operation: OpId,
     pub fate: Fate,
 }
 
 /// Whether a record was made since the beginning.
-#[derive(Clone, Copy)]
+#[derive(Clone, Copy, Debug, PartialEq, Eq)]
 pub enum IRStatus {
     Changed,
     Unchanged,
 }
 
 /// What a run comes to.
-#[derive(Clone, Copy)]
+#[derive(Clone, Copy, Debug, PartialEq, Eq)]
 pub enum Answer {
     Done(IRStatus),
     Stopped,
 }
 
 /// A conversion's own number, and the refusal that caused the fault, if one did.
-#[derive(Clone, Copy)]
+#[derive(Clone, Copy, Debug, PartialEq, Eq)]
 pub struct ConversionFault {
     pub number: u16,
     pub refusal: Option<Refusal>,
 }
 
 /// Why the driver refuses or closes.
-#[derive(Clone, Copy)]
+#[derive(Clone, Copy, Debug, PartialEq, Eq)]
 pub enum Fault {
     /// The root is not live.
     NotLive,
@@ -117,7 +118,7 @@ pub enum Fault {
 }
 
 /// Where a fault comes from.
-#[derive(Clone, Copy)]
+#[derive(Clone, Copy, Debug, PartialEq, Eq)]
 pub enum Layer {
     Store,
     Rewriter,
@@ -126,13 +127,14 @@ pub enum Layer {
 }
 
 /// A fault, and the operation or block that was in hand.
-#[derive(Clone, Copy)]
+#[derive(Clone, Copy, Debug, PartialEq, Eq)]
 pub struct Failure {
     pub fault: Fault,
     pub hand: Option<IRNode>,
 }
 
 impl Fault {
+    // Stays: one match, since two cases carry what they tell and so have no number of their own.
     /// The number that the rules give it.
     pub fn number(self) -> u16
         ensures { result ≡ number_of self }
@@ -155,20 +157,19 @@ impl Fault {
     {
         match self {
             Fault::Conversion(_) => Layer::Conversion,
-            Fault::Rewriter(refusal) => Layer::of_refusal(refusal),
+            Fault::Rewriter(refusal) => Layer::from(refusal),
             _ => Layer::Driver,
         }
     }
 }
 
-impl Layer {
-    /// Where a refused call comes from: the store for want of slots and for counts, else the rewriter.
-    pub fn of_refusal(refusal: Refusal) -> Layer
-        ensures { result ≡ layer_of_refusal refusal }
-    {
+/// Where a refused call comes from: the store for want of slots and for counts, else the rewriter.
+impl From<Refusal> for Layer {
+    ghost from_gives = { λ refusal layer. layer ≡ layer_of_refusal refusal };
+
+    fn from(refusal: Refusal) -> Layer {
         match refusal {
-            Refusal::NoSlot => Layer::Store,
-            Refusal::TooMany => Layer::Store,
+            Refusal::NoSlot | Refusal::TooMany => Layer::Store,
             _ => Layer::Rewriter,
         }
     }

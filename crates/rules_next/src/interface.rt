@@ -22,7 +22,7 @@ pub struct Counts {
 }
 
 /// Why the driver refuses or closes.
-#[derive(Clone, Copy)]
+#[derive(Clone, Copy, Debug, PartialEq, Eq)]
 pub enum Fault {
     /// The root is not live.
     NotLive,
@@ -41,20 +41,21 @@ pub enum Fault {
 }
 
 /// A fault, and the operation or block that was in hand.
-#[derive(Clone, Copy)]
+#[derive(Clone, Copy, Debug, PartialEq, Eq)]
 pub struct Failure {
     pub fault: Fault,
     pub hand: Option<IRNode>,
 }
 
 /// What a run answers, and the counts that go with it.
-#[derive(Clone, Copy)]
+#[derive(Clone, Copy, Debug, PartialEq, Eq)]
 pub struct Report {
     pub answer: Result<Answer, Failure>,
     pub counts: Counts,
 }
 
 impl Fault {
+    // Stays: one match, since a case carries the conversion's fault and so has no number of its own.
     /// The number that the rules give it.
     pub fn number(self) -> u16
         ensures { result ≡ number_of self }
