@@ -1,5 +1,5 @@
 -- What becomes of the tables when something leaves them.
-use Rattle.std.proofs.Common.{◌≡◌, ℕ, suc, ◌+◌, ◌≤◌, Bool, true, false, cond, not, ltb, List, [], ◌∷◌, map, length, set, Some, None, Option, sym, refl, ap, ◌∙◌, arith}
+use Rattle.std.proofs.Common.{◌≡◌, ℕ, ◌+◌, true, false, cond, ltb, List, map, set, Some, None, Option, sym, refl, ap, ◌∙◌}
 use Rattle.std.proofs.lemmas.List.{map-set}
 use Rattle.std.specs.Option.{MatchOption}
 use Rattle.slots.specs.Cells.{Cell}
@@ -11,7 +11,7 @@ use Rattle.lists.specs.Walk.{without}
 use Rattle.lists.specs.Lists.{members, home, Relinked}
 use Rattle.lists.specs.declared.lists.LinkedLists.{LinkedLists}
 use Rattle.model.specs.Calls.{unlink_at, drop_op}
-use Rattle.model.specs.Erasing.{less, unlink_block_at, drop_block}
+use Rattle.model.specs.Erasing.{unlink_block_at, drop_block}
 use Rattle.tables.specs.declared.records.Operation.{Operation}
 use Rattle.tables.specs.declared.records.BasicBlock.{BasicBlock}
 use Rattle.tables.specs.declared.tables.Tables.{Tables}
@@ -68,7 +68,3 @@ module _ (t : Tables) (l : LinkedLists) (s : ℕ) where
       let f = view_released view_block (cells t.blocks) (cells k) s e in
       (λ i. record { ops = op_cells t; blocks = f i; regions = cells t.regions; ops_of = members t.op_lists; home_of = home t.op_lists; blocks_of = members l; place_of = home l })
       ∙ ap (λ m. drop_block m s) (block_out (home t.block_lists s) o)
-
-pub less_few : {X : Type 0} (f : X → Bool) (xs : List X) → length (less f xs) ≤ length xs
-less_few f [] = omega arith
-less_few f (x ∷ xs) = elim (f x) as (λ b. length (cond (not b) (x ∷ less f xs) (less f xs)) ≤ suc (length xs)) [ true ↦ omega (arith, less_few f xs) | false ↦ omega (arith, less_few f xs) ]

@@ -1,16 +1,13 @@
 //! Nodes go out of the lists that they are in, and their slots are free.
 ghost use Rattle.std.specs.Prelude.{◌≡◌, MatchOption, None, nat_eq};
-ghost use Rattle.row.specs.Items.{row_items};
 ghost use Rattle.lists.specs.Walk.{without};
 ghost use Rattle.lists.specs.Lists.{members, home, Relinked};
 ghost use Rattle.model.specs.Sound.{Sound};
-ghost use Rattle.model.specs.Erasing.{less, disowned, erase_node, erased};
+ghost use Rattle.model.specs.Erasing.{disowned, erase_node, erased};
 ghost use Rattle.tables.specs.View.{view, sizes, view_op, Changed};
 
 use lists::lists::LinkedLists;
-use model::ids::{IRNode, RegionId};
-use model::limits::MAX_REGIONS;
-use row::Row;
+use model::ids::IRNode;
 use slots::Table;
 use tables::records::Operation;
 use tables::tables::Tables;
@@ -24,27 +21,12 @@ fn take_out(lists: &mut LinkedLists, node: usize)
     }
 }
 
-/// The regions that are not in `slot`, in their order.
-fn others(regions: &Row<RegionId, MAX_REGIONS>, slot: usize) -> Row<RegionId, MAX_REGIONS>
-    ensures { row_items result ≡ less (λ (q : RegionId). nat_eq q.slot slot) (row_items regions.now) }
-{
-    let mut rest = Row::default();
-    let kept = regions
-        .as_slice()
-        .iter()
-        .filter(|region| region.slot != slot);
-    for region in kept {
-        rest.push(*region);
-    }
-    rest
-}
-
 /// The region in `slot` is no longer among the regions of the operation in the slot `owner`.
 fn disown(operations: &mut Table<Operation>, owner: usize, slot: usize)
     ensures { Changed view_op (disowned (λ k. nat_eq k slot)) owner operations.old operations.new }
 {
     operations.change(owner, |operation| {
-        operation.regions = others(&operation.regions, slot);
+        operation.regions.retain(|region| region.slot != slot);
     });
 }
 

@@ -1,6 +1,6 @@
 #![tactic(auto)]
 
-// An inline bounded list of Copy elements.
+//! An inline bounded list of Copy elements.
 mod row;
 
 pub use row::{Row, TooLong};

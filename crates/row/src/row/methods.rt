@@ -1,6 +1,7 @@
 ghost use Rattle.std.specs.Prelude.{◌≡◌, ℕ, ◌+◌, ◌-◌, ◌<◌, ◌≤◌, true, cond, [], ◌∷◌, ◌++◌, length, is_some, MatchOption, nat_lt, slice_index_or, slice_set};
 ghost use Rattle.std.specs.List.{AllZip, remove, slice_get};
-ghost use Rattle.row.specs.Items.{row_items};
+ghost use Rattle.std.specs.Fn.{FnReturnsAt};
+ghost use Rattle.row.specs.Items.{row_items, Retained};
 
 use super::Row;
 use std::mem;
@@ -65,5 +66,20 @@ impl<T: Copy, const N: usize> Row<T, N> {
         for item in &mut self.items[..self.len] {
             *item = f(*item);
         }
+    }
+    /// The elements for which `f` answers true stay, in their order.
+    pub fn retain<F: Fn(&T) -> bool>(&mut self, f: F)
+        requires { F.IsAlwaysCallable f }
+        ensures { Retained (FnReturnsAt F.Fn f) (row_items self.old) (row_items self.new) }
+    {
+        let mut kept = 0;
+        for i in 0..self.len {
+            let x = self.items[i];
+            if f(&x) {
+                self.items[kept] = x;
+                kept += 1;
+            }
+        }
+        self.len = kept;
     }
 }
