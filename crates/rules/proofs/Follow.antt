@@ -43,7 +43,7 @@ module _ {C : Type 0} (M : Meaning C) where
       let ks = w.memory.states in
       let a = type_now (model_of w.env) (argument p) in
       let q = quiet_records w.env.world (argument p) u no_pick ok.clear in
-      let later = (retype_leads M w.env e ok (inr (record { value = argument p; type = u; pick = no_pick; leaves = refl }))).later in
+      let later = (retype_leads w.env e ok (inr (record { value = argument p; type = u; pick = no_pick; leaves = refl }))).later in
       let same = quiet_erased (model_of e) ks es (argument p) a u q in
       subst (λ os. Meets M e w.room None (kept (real M) w.env (marks_of ks)) os (record { memory = w.memory; queued = w.counts.queued; moments = [] }) (retyped_batch M w p n u).load)
       (quiet_inserted es (argument p) a u q)

@@ -23,7 +23,8 @@ use Rattle.rules_next.specs.Driver.{World, Load, noted, mark_all_erased}
 use Rattle.rules.specs.Rules.{no_pick, with_lists}
 use Rattle.rules_next.specs.Rules.{Told, Step, finished, valued, answered, retyped_world, stale_world, aside_world, wait_world, rewritten_world, keeps_type, same_type, new_type, stale, sets_aside, waits, rewrites, noted_all, retype, retyped_env, retyped_batch, ready_moments, rewritten_batch, left_env, RewrotesTo, states_taken, due_definers, first_one, chain_of, operand_types}
 use Rattle.rules_next.specs.View.{view}
-use Rattle.rules_next.proofs.Reals.{laws, rewrite_leads, retype_leads, left_stands}
+use Rattle.rules.proofs.Reals.{retype_leads}
+use Rattle.rules_next.proofs.Reals.{laws, rewrite_leads, left_stands}
 use Rattle.rules.proofs.Marking.{Alive, Known, known_later, always_rewritten, is_queued_lem, not_queued}
 use Rattle.rules_next.proofs.Marking.{noted_at, noted_off, known_noted, erased_all, known_all}
 use Rattle.rules_next.proofs.Batch.{Meets, handled, Lays, laid_batch}
@@ -50,7 +51,7 @@ module _ {C : Type 0} (M : Meaning C) where
       let ks = w.memory.states in
       let a = type_now (model_of w.env) (argument p) in
       let q = quiet_records w.env.world (argument p) u no_pick ok.clear in
-      let later = (retype_leads M w.env e ok (inr (record { value = argument p; type = u; pick = no_pick; leaves = refl }))).later in
+      let later = (retype_leads w.env e ok (inr (record { value = argument p; type = u; pick = no_pick; leaves = refl }))).later in
       let same = quiet_erased (model_of e) ks es (argument p) a u q in
       subst (λ os. Meets M e w.room None (kept (real M) w.env (marks_of ks)) os (record { memory = w.memory; queued = w.counts.queued; moments = [] }) (retyped_batch M w p n u).load)
       (ap ops_among (quiet_inserted es (argument p) a u q))
