@@ -133,22 +133,23 @@ module _ {C : Type 0} where
   clear_retype e d ok (inl q) = ap (λ (v : World). v.records) q ∙ ok.clear
   clear_retype e d ok (inr r) = ap (λ (v : World). v.records) r.leaves
 
--- what the law is about, for any rewrites that go by calls
-module _ {C : Type 0} (can : C → Model → OpId → Bool) (R : Env C → OpId → Env C → List OpId → Type 0) (by : (e : Env C) (x : OpId) (d : Env C) (is : List OpId) → R e x d is → ByCalls e x d is) where
-  abbrev store_setting : Setting
-  store_setting = record {
-    Op = OpId;
-    same = same_op;
-    Env = Env C;
-    Good = Good;
-    live = λ e x. is_some (find_op e.world.model x);
-    convertible = λ e x. can e.value e.world.model x;
-    definers = λ e x. definers_in e.world.model x;
-    Rewrite = R;
-    Retype = λ e d. (d.world ≡ e.world) ⊎ Retypes e.world d.world;
-  }
+-- what the law is about, for any rewrites
+abbrev pub store_setting : {C : Type 0} → (C → Model → OpId → Bool) → (Env C → OpId → Env C → List OpId → Type 0) → Setting
+store_setting {C} can R = record {
+  Op = OpId;
+  same = same_op;
+  Env = Env C;
+  Good = Good;
+  live = λ e x. is_some (find_op e.world.model x);
+  convertible = λ e x. can e.value e.world.model x;
+  definers = λ e x. definers_in e.world.model x;
+  Rewrite = R;
+  Retype = λ e d. (d.world ≡ e.world) ⊎ Retypes e.world d.world;
+}
 
-  pub store_laws : Laws store_setting
+-- rewrites that go by calls
+module _ {C : Type 0} (can : C → Model → OpId → Bool) (R : Env C → OpId → Env C → List OpId → Type 0) (by : (e : Env C) (x : OpId) (d : Env C) (is : List OpId) → R e x d is → ByCalls e x d is) where
+  pub store_laws : Laws (store_setting can R)
   store_laws = record {
     same_is = same_is;
     same_self = same_self;
@@ -174,7 +175,7 @@ module _ {C : Type 0} (can : C → Model → OpId → Bool) (R : Env C → OpId 
   }
 
 module _ {C : Type 0} (M : Meaning C) where
-  abbrev by_calls : (e : Env C) (x : OpId) (d : Env C) (is : List OpId) → Rewrites M e x d is → ByCalls e x d is
+  abbrev pub by_calls : (e : Env C) (x : OpId) (d : Env C) (is : List OpId) → Rewrites M e x d is → ByCalls e x d is
   by_calls e x d is r = record {
     calls = (M.rewrite e.value (aimed e.world x) x r.histories r.picks).calls;
     picks = r.picks;

@@ -31,7 +31,8 @@ use Rattle.rules_next.proofs.Batch.{Meets, handled, Lays, laid_batch}
 use Rattle.rules.proofs.Recorded.{AllStand}
 use Rattle.rules.proofs.Chain.{chain_ends}
 use Rattle.rules.proofs.Agreeing.{quiet_records}
-use Rattle.rules_next.proofs.Agreeing.{quiet_inserted, quiet_erased, kept_agree, during_agree, aside_agree, wait_agree, wait_known}
+use Rattle.rules.proofs.Noting.{kept_agree, during_agree, aside_agree}
+use Rattle.rules_next.proofs.Agreeing.{quiet_inserted, quiet_erased, noter, wait_agree, wait_known}
 
 module _ {C : Type 0} (M : Meaning C) where
   -- a step of the law, and what is known of the states afterwards
@@ -56,7 +57,7 @@ module _ {C : Type 0} (M : Meaning C) where
       subst (λ os. Meets M e w.room None (kept (real M) w.env (marks_of ks)) os (record { memory = w.memory; queued = w.counts.queued; moments = [] }) (retyped_batch M w p n u).load)
       (ap ops_among (quiet_inserted es (argument p) a u q))
       (handled M e w.room None es (kept (real M) w.env (marks_of ks)) (record { memory = w.memory; queued = w.counts.queued; moments = [] })
-      (subst (λ z. Agree (real M) e (marks_of z) (kept (real M) w.env (marks_of ks))) (sym same) (kept_agree M w.env e ks k later))
+      (subst (λ z. Agree (real M) e (marks_of z) (kept (real M) w.env (marks_of ks))) (sym same) (kept_agree (noter M) w.env e ks k later))
       (subst (Known (model_of e)) (sym same) (known_later (model_of w.env) (model_of e) ks later k)) h)
 
   -- the rewrite of the front entry's operation, as the law has it
@@ -84,7 +85,7 @@ module _ {C : Type 0} (M : Meaning C) where
     stands = left_stands M w.env x e is ok (as_rewrite w x ks c v r)
 
     agrees : Agree (real M) e (marks_of (mark_all_erased v.model (states_taken M w x) v.records)) B
-    agrees y l = ap mark_of (erased_all v.model (states_taken M w x) v.records stands y l) ∙ during_agree M w.env e w.memory.states x lx qx k later y l
+    agrees y l = ap mark_of (erased_all v.model (states_taken M w x) v.records stands y l) ∙ during_agree (noter M) w.env e w.memory.states x lx qx k later y l
 
     knows : Known v.model (mark_all_erased v.model (states_taken M w x) v.records)
     knows = known_all v.model (states_taken M w x) v.records stands (known_later (model_of w.env) v.model (states_taken M w x) later (known_noted (model_of w.env) w.memory.states x happens.Taken (inl lx) k))
@@ -147,7 +148,7 @@ module _ {C : Type 0} (M : Meaning C) where
         let lx = is_queued_lem m ks x q in
         to w (aside_world M w x rest) w' _ t tq wq (record {
           step = step_to (real M) (view M w) (asked x false ∷ []) _ (view M (aside_world M w x rest))
-              (machine.sets_aside x rest (marks_of (noted m (states_taken M w x) x happens.SetAside)) (none_pending a.calm) a.front lx.0 (ap mark_of lx.1) c (aside_agree M w.env ks x lx.0 lx.1))
+              (machine.sets_aside x rest (marks_of (noted m (states_taken M w x) x happens.SetAside)) (none_pending a.calm) a.front lx.0 (ap mark_of lx.1) c (aside_agree (noter M) w.env ks x lx.0 lx.1))
               (same_state (real M) _ (view M (aside_world M w x rest)) refl refl refl (sym (none_pending a.calm)) refl refl refl);
           known = known_noted m (states_taken M w x) x happens.SetAside (inl lx.0) (known_noted m ks x happens.Taken (inl lx.0) k);
         })

@@ -17,21 +17,22 @@ use Rattle.rules_next.specs.Driver.{notable, noted, mark_erased, mark_all_erased
 use Rattle.rules.proofs.Recorded.{Stands, AllStand}
 use Rattle.rules.proofs.Marking.{Alive, Given, Known, if_noted_at, if_noted_off, if_known_noted}
 
-module _ (m : Model) (ks : ℕ → StateEntry) (o : OpId) (e : OpEvent) where
-  lives : Alive m o → notable m ks o ≡ true
+module _ (m : Model) (ks : ℕ → StateEntry) (o : OpId) where
+  pub lives : Alive m o → notable m ks o ≡ true
   lives l = ap (λ b. b || (eqb (ks o.slot).generation o.generation && ltb o.slot 512)) l
 
-  keeps : notable m ks o ≡ true → Alive m o ⊎ ((ks o.slot).generation ≡ o.generation)
+  pub keeps : notable m ks o ≡ true → Alive m o ⊎ ((ks o.slot).generation ≡ o.generation)
   keeps h = elim (or_cases (is_some (find_op m o)) (eqb (ks o.slot).generation o.generation && ltb o.slot 512) h) [ inl l ↦ inl l | inr g ↦ inr (eqb-true (ks o.slot).generation o.generation (and_parts (eqb (ks o.slot).generation o.generation) (ltb o.slot 512) g).0) ]
 
+module _ (m : Model) (ks : ℕ → StateEntry) (o : OpId) (e : OpEvent) where
   pub noted_at : Alive m o → kept_state (noted m ks o e) o ≡ moved (kept_state ks o) e
-  noted_at = if_noted_at m ks o e (notable m ks o) lives keeps
+  noted_at = if_noted_at m ks o e (notable m ks o) (lives m ks o) (keeps m ks o)
 
   pub noted_off : (y : OpId) → Alive m y → (o ≡ y → ⊥) → kept_state (noted m ks o e) y ≡ kept_state ks y
-  noted_off = if_noted_off m ks o e (notable m ks o) lives keeps
+  noted_off = if_noted_off m ks o e (notable m ks o) (lives m ks o) (keeps m ks o)
 
   pub known_noted : Given m o → Known m ks → Known m (noted m ks o e)
-  known_noted = if_known_noted m ks o e (notable m ks o) lives keeps
+  known_noted = if_known_noted m ks o e (notable m ks o) (lives m ks o) (keeps m ks o)
 
 -- erased operations are marked, and nothing else is read differently
 module _ (m : Model) where

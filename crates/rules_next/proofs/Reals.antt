@@ -11,7 +11,7 @@ use Rattle.rules_next.specs.Meaning.{Meaning}
 use Rattle.rules_next.specs.Setting.{Rewrites, real}
 
 module _ {C : Type 0} (M : Meaning C) where
-  abbrev by_calls : (e : Env C) (x : OpId) (d : Env C) (is : List OpId) → Rewrites M e x d is → ByCalls e x d is
+  abbrev pub by_calls : (e : Env C) (x : OpId) (d : Env C) (is : List OpId) → Rewrites M e x d is → ByCalls e x d is
   by_calls e x d is r = record {
     calls = (M.rewrite e.value (aimed e.world x) x r.histories r.picks).calls;
     picks = r.picks;
