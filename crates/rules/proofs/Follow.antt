@@ -23,7 +23,8 @@ use Rattle.rules.proofs.Reals.{laws, rewrite_leads, retype_leads, left_stands}
 use Rattle.rules.proofs.Marking.{Alive, Known, known_later, noted_at, noted_off, known_noted, erased_all, known_all, always_rewritten, is_queued_lem, not_queued}
 use Rattle.rules.proofs.Batch.{Meets, handled}
 use Rattle.rules.proofs.Chain.{chain_ends}
-use Rattle.rules.proofs.Agreeing.{quiet_records, quiet_inserted, quiet_erased, kept_agree, during_agree, aside_agree, wait_agree, wait_known}
+use Rattle.rules.proofs.Noting.{kept_agree, during_agree, aside_agree}
+use Rattle.rules.proofs.Agreeing.{quiet_records, quiet_inserted, quiet_erased, noter, wait_agree, wait_known}
 
 module _ {C : Type 0} (M : Meaning C) where
   -- a step of the law, and what is known of the states afterwards
@@ -43,12 +44,12 @@ module _ {C : Type 0} (M : Meaning C) where
       let ks = w.memory.states in
       let a = type_now (model_of w.env) (argument p) in
       let q = quiet_records w.env.world (argument p) u no_pick ok.clear in
-      let later = (retype_leads M w.env e ok (inr (record { value = argument p; type = u; pick = no_pick; leaves = refl }))).later in
+      let later = (retype_leads w.env e ok (inr (record { value = argument p; type = u; pick = no_pick; leaves = refl }))).later in
       let same = quiet_erased (model_of e) ks es (argument p) a u q in
       subst (λ os. Meets M e w.room None (kept (real M) w.env (marks_of ks)) os (record { memory = w.memory; queued = w.counts.queued; moments = [] }) (retyped_batch M w p n u).load)
       (quiet_inserted es (argument p) a u q)
       (handled M e w.room None es (kept (real M) w.env (marks_of ks)) (record { memory = w.memory; queued = w.counts.queued; moments = [] })
-      (subst (λ z. Agree (real M) e (marks_of z) (kept (real M) w.env (marks_of ks))) (sym same) (kept_agree M w.env e ks k later))
+      (subst (λ z. Agree (real M) e (marks_of z) (kept (real M) w.env (marks_of ks))) (sym same) (kept_agree (noter M) w.env e ks k later))
       (subst (Known (model_of e)) (sym same) (known_later (model_of w.env) (model_of e) ks later k)) h)
 
   -- the rewrite of the front entry's operation, as the law has it
@@ -69,7 +70,7 @@ module _ {C : Type 0} (M : Meaning C) where
       let stands = left_stands M w.env x e is ok R in
       let one = states_taken M w x in
       handled M e w.room (Some x) v.records (during (real M) w.env (marks_of w.memory.states) x) (record { memory = with_lists w.memory rest one; queued = w.counts.queued; moments = [] })
-      (λ y l. ap mark_of (erased_all v.model one v.records stands y l) ∙ during_agree M w.env e w.memory.states x lx qx k later y l)
+      (λ y l. ap mark_of (erased_all v.model one v.records stands y l) ∙ during_agree (noter M) w.env e w.memory.states x lx qx k later y l)
       (known_all v.model one v.records stands (known_later m v.model one later (known_noted m w.memory.states x happens.Taken (inl lx) k))) h
 
   rewritten_agree : (e : Env C) (ks : ℕ → StateEntry) (x : OpId) (st : OpId → Mark) → Agree (real M) e (marks_of ks) st → Agree (real M) e (marks_of (noted (model_of e) ks x happens.Rewritten)) (put (real M) st x rewritten)
@@ -123,7 +124,7 @@ module _ {C : Type 0} (M : Meaning C) where
         let lx = is_queued_lem m ks x q in
         to w (aside_world M w x rest) w' _ t tq wq (record {
           step = step_to (real M) (view M w) (asked x false ∷ []) _ (view M (aside_world M w x rest))
-              (machine.sets_aside x rest (marks_of (noted m (states_taken M w x) x happens.SetAside)) (none_pending a.calm) a.front lx.0 (ap mark_of lx.1) c (aside_agree M w.env ks x lx.0 lx.1))
+              (machine.sets_aside x rest (marks_of (noted m (states_taken M w x) x happens.SetAside)) (none_pending a.calm) a.front lx.0 (ap mark_of lx.1) c (aside_agree (noter M) w.env ks x lx.0 lx.1))
               (same_state (real M) _ (view M (aside_world M w x rest)) refl refl refl (sym (none_pending a.calm)) refl refl refl);
           known = known_noted m (states_taken M w x) x happens.SetAside (inl lx.0) (known_noted m ks x happens.Taken (inl lx.0) k);
         })

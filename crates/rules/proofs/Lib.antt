@@ -4,6 +4,7 @@ pub mod Reals
 pub mod Marking
 pub mod Batch
 pub mod Chain
+pub mod Noting
 pub mod Agreeing
 pub mod Follow
 pub mod Counting

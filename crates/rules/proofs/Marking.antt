@@ -47,23 +47,25 @@ of_same k g e = ap (λ b. cond b k.state state.Unmarked) (eq-eqb k.generation g 
 pub of_other : (k : StateEntry) (g : ℕ) → (k.generation ≡ g → ⊥) → of_generation k g ≡ state.Unmarked
 of_other k g ne = ap (λ b. cond b k.state state.Unmarked) (ne_eqb k.generation g ne)
 
-module _ (m : Model) (ks : ℕ → StateEntry) (o : OpId) (e : OpEvent) where
+-- An event is noted of o where b says so: of each that lives, and else only where its slot still keeps its state.
+module _ (m : Model) (ks : ℕ → StateEntry) (o : OpId) (e : OpEvent) (b : Bool) (lives : Alive m o → b ≡ true) (keeps : b ≡ true → Alive m o ⊎ ((ks o.slot).generation ≡ o.generation)) where
   abbrev entry : StateEntry
   entry = record { generation = o.generation; state = moved (kept_state ks o) e }
 
-  written : notable m ks o ≡ true → noted m ks o e ≡ put ks o.slot entry
-  written h = cond-true (notable m ks o) (put ks o.slot entry) ks h
+  abbrev after : ℕ → StateEntry
+  after = cond b (put ks o.slot entry) ks
 
-  unwritten : notable m ks o ≡ false → noted m ks o e ≡ ks
-  unwritten h = cond-false (notable m ks o) (put ks o.slot entry) ks h
+  written : b ≡ true → after ≡ put ks o.slot entry
+  written h = cond-true b (put ks o.slot entry) ks h
 
-  pub noted_at : Alive m o → kept_state (noted m ks o e) o ≡ moved (kept_state ks o) e
-  noted_at l =
-      let h : notable m ks o ≡ true = ap (λ b. b || eqb (ks o.slot).generation o.generation) l in
-      ap (λ f. kept_state f o) (written h) ∙ ap (λ k. of_generation k o.generation) (put_same ks o.slot entry) ∙ of_same entry o.generation refl
+  unwritten : b ≡ false → after ≡ ks
+  unwritten h = cond-false b (put ks o.slot entry) ks h
 
-  pub noted_off : (y : OpId) → Alive m y → (o ≡ y → ⊥) → kept_state (noted m ks o e) y ≡ kept_state ks y
-  noted_off y l ne = elim (cases_Bool (notable m ks o)) [
+  pub if_noted_at : Alive m o → kept_state after o ≡ moved (kept_state ks o) e
+  if_noted_at l = ap (λ f. kept_state f o) (written (lives l)) ∙ ap (λ k. of_generation k o.generation) (put_same ks o.slot entry) ∙ of_same entry o.generation refl
+
+  pub if_noted_off : (y : OpId) → Alive m y → (o ≡ y → ⊥) → kept_state after y ≡ kept_state ks y
+  if_noted_off y l ne = elim (cases_Bool b) [
     | inr h ↦ ap (λ f. kept_state f y) (unwritten h)
     | inl h ↦ ap (λ f. kept_state f y) (written h) ∙ elim (cases_eq y.slot o.slot) [
       | inr d ↦ ap (λ k. of_generation k y.generation) (put_other ks o.slot entry y.slot d)
@@ -72,15 +74,15 @@ module _ (m : Model) (ks : ℕ → StateEntry) (o : OpId) (e : OpEvent) where
           ap (λ s. of_generation (put ks o.slot entry s) y.generation) d
           ∙ ap (λ k. of_generation k y.generation) (put_same ks o.slot entry)
           ∙ of_other entry y.generation differ
-          ∙ elim (or_cases (is_some (find_op m o)) (eqb (ks o.slot).generation o.generation) h) [
+          ∙ elim (keeps h) [
             | inl lo ↦ absurd (differ (same_generation m.ops o.slot y.slot o.generation y.generation (sym d) lo l))
-            | inr g ↦ sym (ap (λ s. of_generation (ks s) y.generation) d ∙ of_other (ks o.slot) y.generation (λ q. differ (sym (eqb-true (ks o.slot).generation o.generation g) ∙ q)))
+            | inr g ↦ sym (ap (λ s. of_generation (ks s) y.generation) d ∙ of_other (ks o.slot) y.generation (λ q. differ (sym g ∙ q)))
           ]
     ]
   ]
 
-  pub known_noted : Given m o → Known m ks → Known m (noted m ks o e)
-  known_noted g k y = elim (cases_Bool (notable m ks o)) [
+  pub if_known_noted : Given m o → Known m ks → Known m after
+  if_known_noted g k y = elim (cases_Bool (b)) [
     | inr h ↦ elim (k y) [ inl q ↦ inl q | inr u ↦ inr (ap (λ f. kept_state f y) (unwritten h) ∙ u) ]
     | inl h ↦ elim (cases_eq y.slot o.slot) [
       | inr d ↦ elim (k y) [ inl q ↦ inl q | inr u ↦ inr (ap (λ f. kept_state f y) (written h) ∙ ap (λ z. of_generation z y.generation) (put_other ks o.slot entry y.slot d) ∙ u) ]
@@ -90,6 +92,23 @@ module _ (m : Model) (ks : ℕ → StateEntry) (o : OpId) (e : OpEvent) where
       ]
     ]
   ]
+
+module _ (m : Model) (ks : ℕ → StateEntry) (o : OpId) where
+  pub lives : Alive m o → notable m ks o ≡ true
+  lives l = ap (λ b. b || eqb (ks o.slot).generation o.generation) l
+
+  pub keeps : notable m ks o ≡ true → Alive m o ⊎ ((ks o.slot).generation ≡ o.generation)
+  keeps h = elim (or_cases (is_some (find_op m o)) (eqb (ks o.slot).generation o.generation) h) [ inl l ↦ inl l | inr g ↦ inr (eqb-true (ks o.slot).generation o.generation g) ]
+
+module _ (m : Model) (ks : ℕ → StateEntry) (o : OpId) (e : OpEvent) where
+  pub noted_at : Alive m o → kept_state (noted m ks o e) o ≡ moved (kept_state ks o) e
+  noted_at = if_noted_at m ks o e (notable m ks o) (lives m ks o) (keeps m ks o)
+
+  pub noted_off : (y : OpId) → Alive m y → (o ≡ y → ⊥) → kept_state (noted m ks o e) y ≡ kept_state ks y
+  noted_off = if_noted_off m ks o e (notable m ks o) (lives m ks o) (keeps m ks o)
+
+  pub known_noted : Given m o → Known m ks → Known m (noted m ks o e)
+  known_noted = if_known_noted m ks o e (notable m ks o) (lives m ks o) (keeps m ks o)
 
 -- erased operations are marked, and nothing else is read differently
 module _ (m : Model) where

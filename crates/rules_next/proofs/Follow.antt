@@ -23,14 +23,16 @@ use Rattle.rules_next.specs.Driver.{World, Load, noted, mark_all_erased}
 use Rattle.rules.specs.Rules.{no_pick, with_lists}
 use Rattle.rules_next.specs.Rules.{Told, Step, finished, valued, answered, retyped_world, stale_world, aside_world, wait_world, rewritten_world, keeps_type, same_type, new_type, stale, sets_aside, waits, rewrites, noted_all, retype, retyped_env, retyped_batch, ready_moments, rewritten_batch, left_env, RewrotesTo, states_taken, due_definers, first_one, chain_of, operand_types}
 use Rattle.rules_next.specs.View.{view}
-use Rattle.rules_next.proofs.Reals.{laws, rewrite_leads, retype_leads, left_stands}
+use Rattle.rules.proofs.Reals.{retype_leads}
+use Rattle.rules_next.proofs.Reals.{laws, rewrite_leads, left_stands}
 use Rattle.rules.proofs.Marking.{Alive, Known, known_later, always_rewritten, is_queued_lem, not_queued}
 use Rattle.rules_next.proofs.Marking.{noted_at, noted_off, known_noted, erased_all, known_all}
 use Rattle.rules_next.proofs.Batch.{Meets, handled, Lays, laid_batch}
 use Rattle.rules.proofs.Recorded.{AllStand}
 use Rattle.rules.proofs.Chain.{chain_ends}
 use Rattle.rules.proofs.Agreeing.{quiet_records}
-use Rattle.rules_next.proofs.Agreeing.{quiet_inserted, quiet_erased, kept_agree, during_agree, aside_agree, wait_agree, wait_known}
+use Rattle.rules.proofs.Noting.{kept_agree, during_agree, aside_agree}
+use Rattle.rules_next.proofs.Agreeing.{quiet_inserted, quiet_erased, noter, wait_agree, wait_known}
 
 module _ {C : Type 0} (M : Meaning C) where
   -- a step of the law, and what is known of the states afterwards
@@ -50,12 +52,12 @@ module _ {C : Type 0} (M : Meaning C) where
       let ks = w.memory.states in
       let a = type_now (model_of w.env) (argument p) in
       let q = quiet_records w.env.world (argument p) u no_pick ok.clear in
-      let later = (retype_leads M w.env e ok (inr (record { value = argument p; type = u; pick = no_pick; leaves = refl }))).later in
+      let later = (retype_leads w.env e ok (inr (record { value = argument p; type = u; pick = no_pick; leaves = refl }))).later in
       let same = quiet_erased (model_of e) ks es (argument p) a u q in
       subst (λ os. Meets M e w.room None (kept (real M) w.env (marks_of ks)) os (record { memory = w.memory; queued = w.counts.queued; moments = [] }) (retyped_batch M w p n u).load)
       (ap ops_among (quiet_inserted es (argument p) a u q))
       (handled M e w.room None es (kept (real M) w.env (marks_of ks)) (record { memory = w.memory; queued = w.counts.queued; moments = [] })
-      (subst (λ z. Agree (real M) e (marks_of z) (kept (real M) w.env (marks_of ks))) (sym same) (kept_agree M w.env e ks k later))
+      (subst (λ z. Agree (real M) e (marks_of z) (kept (real M) w.env (marks_of ks))) (sym same) (kept_agree (noter M) w.env e ks k later))
       (subst (Known (model_of e)) (sym same) (known_later (model_of w.env) (model_of e) ks later k)) h)
 
   -- the rewrite of the front entry's operation, as the law has it
@@ -83,7 +85,7 @@ module _ {C : Type 0} (M : Meaning C) where
     stands = left_stands M w.env x e is ok (as_rewrite w x ks c v r)
 
     agrees : Agree (real M) e (marks_of (mark_all_erased v.model (states_taken M w x) v.records)) B
-    agrees y l = ap mark_of (erased_all v.model (states_taken M w x) v.records stands y l) ∙ during_agree M w.env e w.memory.states x lx qx k later y l
+    agrees y l = ap mark_of (erased_all v.model (states_taken M w x) v.records stands y l) ∙ during_agree (noter M) w.env e w.memory.states x lx qx k later y l
 
     knows : Known v.model (mark_all_erased v.model (states_taken M w x) v.records)
     knows = known_all v.model (states_taken M w x) v.records stands (known_later (model_of w.env) v.model (states_taken M w x) later (known_noted (model_of w.env) w.memory.states x happens.Taken (inl lx) k))
@@ -146,7 +148,7 @@ module _ {C : Type 0} (M : Meaning C) where
         let lx = is_queued_lem m ks x q in
         to w (aside_world M w x rest) w' _ t tq wq (record {
           step = step_to (real M) (view M w) (asked x false ∷ []) _ (view M (aside_world M w x rest))
-              (machine.sets_aside x rest (marks_of (noted m (states_taken M w x) x happens.SetAside)) (none_pending a.calm) a.front lx.0 (ap mark_of lx.1) c (aside_agree M w.env ks x lx.0 lx.1))
+              (machine.sets_aside x rest (marks_of (noted m (states_taken M w x) x happens.SetAside)) (none_pending a.calm) a.front lx.0 (ap mark_of lx.1) c (aside_agree (noter M) w.env ks x lx.0 lx.1))
               (same_state (real M) _ (view M (aside_world M w x rest)) refl refl refl (sym (none_pending a.calm)) refl refl refl);
           known = known_noted m (states_taken M w x) x happens.SetAside (inl lx.0) (known_noted m ks x happens.Taken (inl lx.0) k);
         })
