@@ -72,6 +72,7 @@ impl<T: Copy, const N: usize> Row<T, N> {
         requires { F.IsAlwaysCallable f }
         ensures { Retained (FnReturnsAt F.Fn f) (row_items self.old) (row_items self.new) }
     {
+        // Stays: by places, since elements move down within the one array.
         let mut kept = 0;
         for i in 0..self.len {
             let x = self.items[i];
