@@ -1,7 +1,8 @@
 -- What a recorder has kept.
-use Rattle.std.specs.Prelude.{List, vec_items}
+use Rattle.std.specs.Prelude.{List}
+use Rattle.bounded.specs.Items.{bounded_items}
 use Rattle.calls.specs.declared.events.RecorderEvent.{RecorderEvent}
 use Rattle.rewriter.specs.declared.listener.Recorder.{Recorder}
 
 abbrev pub recorded : Recorder → List RecorderEvent
-recorded r = vec_items r.events
+recorded r = bounded_items r.events

@@ -1,9 +1,11 @@
 //! Who is told of the changes.
-ghost use Rattle.std.specs.Prelude.{◌≡◌, ◌≤◌, Bool, true, false, List, [], ◌∷◌, ◌++◌, length, IfOk, vec_capacity, refl};
+ghost use Rattle.std.specs.Prelude.{◌≡◌, Bool, true, false, List, [], ◌∷◌, ◌++◌, IfOk, refl};
+ghost use Rattle.bounded.specs.Items.{bounded_items};
 ghost use Rattle.calls.specs.World.{kept, fits};
 ghost use Rattle.calls.specs.declared.events.RecorderEvent.{RecorderEvent};
 ghost use Rattle.calls.proofs.Outcomes.{fits_none};
 
+use bounded::Bounded;
 use calls::events::{MAX_RECORDS, RecorderEvent};
 use std::alloc::{AllocError, Global};
 
@@ -30,49 +32,46 @@ pub trait RewriteListener {
 /// It keeps the records in order, in memory that is reserved when it is made.
 #[derive(Drop)]
 pub struct Recorder {
-    // Stays: reserved when it is made, since nothing allocates afterwards.
-    events: Vec<RecorderEvent>,
-    ghost within: { length events.items ≤ 1024 },
-    ghost reserved: { 1024 ≤ vec_capacity events },
+    events: Bounded<RecorderEvent, MAX_RECORDS>,
 }
 
 impl Recorder {
     /// A recorder with no record.
     pub fn new(heap: Global) -> Result<Recorder, AllocError>
-        ensures { IfOk result (λ s. s.events.items ≡ []) }
+        ensures { IfOk result (λ s. bounded_items s.events ≡ []) }
     {
-        let events = Vec::with_capacity(heap, MAX_RECORDS)?;
+        let events = Bounded::new(heap)?;
         Ok(Recorder { events })
     }
 
     /// The records, the oldest first.
     pub fn events(&self) -> &[RecorderEvent]
-        ensures { result.now ≡ self.now.events.items }
+        ensures { result.now ≡ bounded_items self.now.events }
     {
         self.events.as_slice()
     }
 
     /// Lets all records go.
     pub fn clear(&mut self)
-        ensures { self.new.events.items ≡ [] }
+        ensures { bounded_items self.new.events ≡ [] }
     {
         self.events.clear();
     }
 }
 
 impl RewriteListener for Recorder {
-    ghost log = { λ s. s.events.items };
+    ghost log = { λ s. bounded_items s.events };
 
     ghost keeps = { true };
 
-    ghost within = { λ s. fits_none true s.events.items s.within };
+    ghost within = { λ s. fits_none true (bounded_items s.events) s.events.within };
 
     fn takes(&self, count: usize) -> bool {
         count <= MAX_RECORDS - self.events.len()
     }
 
     fn notify(&mut self, event: RecorderEvent) {
-        self.events.push_reserved(event);
+        self.events.push(event);
     }
 }
 

@@ -21,12 +21,12 @@ pub returns-in_err-room : goal.returns-in_err-room
 returns-in_err-room g c =
     handed _ _ (erase c.args.node) _ _ _ _ c.from_residual-in_err-room.result c.from_residual-in_err-room.ensures.1 c.in_err-room.ensures.0
     (erase_full _ _ c.args.node (nodes_in c.list_part.new.part) c.in_ok-list_part.ensures c.if-used_outside.ensures
-    (ap (fits g.L.RewriteListener.keeps (g.L.RewriteListener.log c.args.self.now.listener)) (sym c.len.ensures) ∙ c.in_err-room.ensures.1))
+    (ap (fits g.L.RewriteListener.keeps (g.L.RewriteListener.log c.args.self.now.listener)) (sym c.len.ensures.value) ∙ c.in_err-room.ensures.1))
 
 pub returns : goal.returns
 returns g c =
     let keeps = g.L.RewriteListener.keeps in
     let es = g.L.RewriteListener.log c.args.self.now.listener in
     erase_done _ _ c.args.node (nodes_in c.list_part.new.part) c.in_ok-list_part.ensures c.if-used_outside.ensures
-    (ap (fits keeps es) (sym c.len.ensures) ∙ c.in_ok-room.ensures) _ c.erase_part.ensures refl
+    (ap (fits keeps es) (sym c.len.ensures.value) ∙ c.in_ok-room.ensures) _ c.erase_part.ensures refl
     (c.notify_erasures.ensures ∙ ap (λ ns. es ++ kept keeps (map erasing ns)) c.as_slice.ensures)

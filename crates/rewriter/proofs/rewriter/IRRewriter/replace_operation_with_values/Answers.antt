@@ -41,7 +41,7 @@ returns-in_err-room g c =
     let vs = row_items c.results-results.result in
     let x : Exchange w.model o vs ws ns = record { part = c.in_ok-list_part.ensures; olds = c.results-results.ensures; news = c.if-not-are_live.ensures; allowed = passes _ c.in_ok-check_exchange.ensures } in
     handed _ _ (replace_with o ws) _ _ _ _ c.from_residual-in_err-room.result c.from_residual-in_err-room.ensures.1 c.in_err-room.ensures.0
-    (exchange_full keeps w o vs ws ns x (exchange_fits keeps w o vs ws ns x c.len.result c.len-2.result false c.len.ensures.value c.len-2.ensures (sym c.in_err-room.ensures.1)))
+    (exchange_full keeps w o vs ws ns x (exchange_fits keeps w o vs ws ns x c.len.result c.len-2.result false c.len.ensures.value c.len-2.ensures.value (sym c.in_err-room.ensures.1)))
 
 pub replace_each-requires : goal.replace_each-requires
 replace_each-requires g c =
@@ -53,7 +53,7 @@ replace_each-requires g c =
     let vs = c.as_slice.result.now in
     let x : Exchange w.model o vs ws ns =
     record { part = c.in_ok-list_part.ensures; olds = c.as_slice.ensures ∙ c.results-results.ensures; news = c.if-not-are_live.ensures; allowed = passes _ c.in_ok-check_exchange.ensures } in
-    let f = exchange_fits keeps w o vs ws ns x c.len.result c.len-2.result true (c.len.ensures.value ∙ sym (ap length c.as_slice.ensures)) c.len-2.ensures (sym c.in_ok-room.ensures) in
+    let f = exchange_fits keeps w o vs ws ns x c.len.result c.len-2.result true (c.len.ensures.value ∙ sym (ap length c.as_slice.ensures)) c.len-2.ensures.value (sym c.in_ok-room.ensures) in
     record { olds = exchange_olds keeps w o vs ws ns x; news = sym x.news; room = exchange_room keeps w o vs ws ns x f }
 
 pub notify_erasures-requires : goal.notify_erasures-requires
@@ -66,7 +66,7 @@ notify_erasures-requires g c =
     let vs = c.as_slice.result.now in
     let x : Exchange w.model o vs ws ns =
     record { part = c.in_ok-list_part.ensures; olds = c.as_slice.ensures ∙ c.results-results.ensures; news = c.if-not-are_live.ensures; allowed = passes _ c.in_ok-check_exchange.ensures } in
-    let f = exchange_fits keeps w o vs ws ns x c.len.result c.len-2.result true (c.len.ensures.value ∙ sym (ap length c.as_slice.ensures)) c.len-2.ensures (sym c.in_ok-room.ensures) in
+    let f = exchange_fits keeps w o vs ws ns x c.len.result c.len-2.result true (c.len.ensures.value ∙ sym (ap length c.as_slice.ensures)) c.len-2.ensures.value (sym c.in_ok-room.ensures) in
     let es = g.L.RewriteListener.log c.replace_each.new.listener in
     ap (λ ks. fits keeps es (length ks)) c.as_slice-2.ensures ∙ erase_room keeps w o vs ws ns x f es c.replace_each.ensures.log
 
@@ -93,7 +93,7 @@ returns g c =
     let vs = c.as_slice.result.now in
     let x : Exchange w.model o vs ws ns =
     record { part = c.in_ok-list_part.ensures; olds = c.as_slice.ensures ∙ c.results-results.ensures; news = c.if-not-are_live.ensures; allowed = passes _ c.in_ok-check_exchange.ensures } in
-    let f = exchange_fits keeps w o vs ws ns x c.len.result c.len-2.result true (c.len.ensures.value ∙ sym (ap length c.as_slice.ensures)) c.len-2.ensures (sym c.in_ok-room.ensures) in
+    let f = exchange_fits keeps w o vs ws ns x c.len.result c.len-2.result true (c.len.ensures.value ∙ sym (ap length c.as_slice.ensures)) c.len-2.ensures.value (sym c.in_ok-room.ensures) in
     let es = g.L.RewriteListener.log c.replace_each.new.listener in
     exchange_done keeps w o vs ws ns x f (meaning c.replace_each.new.store) c.replace_each.ensures.store _ c.erase_part.ensures refl es c.replace_each.ensures.log
     (c.notify_erasures.ensures ∙ ap (λ ks. es ++ kept keeps (map erasing ks)) c.as_slice-2.ensures)
