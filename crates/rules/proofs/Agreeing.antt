@@ -15,7 +15,7 @@ use Rattle.rules.specs.declared.interface.OpState.TheVariants as state
 use Rattle.rules.specs.declared.interface.OpEvent.TheVariants as happens
 use Rattle.rules.specs.declared.interface.StateEntry.{StateEntry}
 use Rattle.rules.specs.Meaning.{Meaning}
-use Rattle.rules.specs.Setting.{Env, Rewrites, real, inserted, ops_among}
+use Rattle.rules.specs.Setting.{Env, Rewrites, real, inserted}
 use Rattle.rules.specs.Driver.{notable, model_of, kept_state, noted, marks_of, mark_all_erased}
 use Rattle.rules.specs.Rules.{noted_all}
 use Rattle.rules.proofs.Reals.{by_calls}
@@ -36,9 +36,9 @@ quiet_records w v t k c = at (answer true w (set_type v t) k)
     at (Some e) = inl c
     at None = go (eqb (type_now w.model v) t)
 
-pub quiet_inserted : (es : List RecorderEvent) (v : Value) (a b : ℕ) → (es ≡ []) ⊎ (es ≡ event.ValueTypeChanged v a b ∷ []) → ops_among (inserted es) ≡ []
-quiet_inserted es v a b (inl q) = ap (λ z. ops_among (inserted z)) q
-quiet_inserted es v a b (inr q) = ap (λ z. ops_among (inserted z)) q
+pub quiet_inserted : (es : List RecorderEvent) (v : Value) (a b : ℕ) → (es ≡ []) ⊎ (es ≡ event.ValueTypeChanged v a b ∷ []) → inserted es ≡ []
+quiet_inserted es v a b (inl q) = ap inserted q
+quiet_inserted es v a b (inr q) = ap inserted q
 
 pub quiet_erased : (m : Model) (ks : ℕ → StateEntry) (es : List RecorderEvent) (v : Value) (a b : ℕ) → (es ≡ []) ⊎ (es ≡ event.ValueTypeChanged v a b ∷ []) → mark_all_erased m ks es ≡ ks
 quiet_erased m ks es v a b (inl q) = ap (mark_all_erased m ks) q

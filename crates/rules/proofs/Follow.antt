@@ -47,7 +47,7 @@ module _ {C : Type 0} (M : Meaning C) where
       let later = (retype_leads w.env e ok (inr (record { value = argument p; type = u; pick = no_pick; leaves = refl }))).later in
       let same = quiet_erased (model_of e) ks es (argument p) a u q in
       subst (λ os. Meets M e w.room None (kept (real M) w.env (marks_of ks)) os (record { memory = w.memory; queued = w.counts.queued; moments = [] }) (retyped_batch M w p n u).load)
-      (quiet_inserted es (argument p) a u q)
+      (ap ops_among (quiet_inserted es (argument p) a u q))
       (handled M e w.room None es (kept (real M) w.env (marks_of ks)) (record { memory = w.memory; queued = w.counts.queued; moments = [] })
       (subst (λ z. Agree (real M) e (marks_of z) (kept (real M) w.env (marks_of ks))) (sym same) (kept_agree (noter M) w.env e ks k later))
       (subst (Known (model_of e)) (sym same) (known_later (model_of w.env) (model_of e) ks later k)) h)

@@ -1,4 +1,4 @@
--- What is noted of operations agrees with what the law says of their marks, whatever says of which a note is made.
+-- What is noted of operations agrees with what the law says of their marks, whichever edition of the rules notes it.
 use Rattle.std.proofs.Common.{◌≡◌, ℕ, Bool, true, cond, ◌⊎◌, List, [], ◌∷◌, ◌++◌, is_some, sym, refl, ap, ◌∙◌, subst, inl, inr}
 use Rattle.std.proofs.lemmas.Bool.{cases_Bool, both_ways}
 use Rattle.model.specs.declared.ids.OpId.{OpId}

@@ -1,5 +1,5 @@
 //! The rules of the driver: what it keeps, what a conversion means to it, and what each step does. They stand in specs/.
-// The edition that landed: it stands until the driver carries the theorem whole, then it goes. `rules_next` is the rules as they are to become, and takes from here all that both editions share.
+// The edition that landed, and all that both editions share; `rules_next` has what is to become different. There are two since this one stands until the driver carries the theorem whole; then the older one goes.
 
 #![tactic(auto)]
 

@@ -10,7 +10,7 @@ use Rattle.rules.specs.declared.interface.OpState.TheVariants as state
 use Rattle.rules.specs.declared.interface.OpEvent.TheVariants as happens
 use Rattle.rules.specs.declared.interface.StateEntry.{StateEntry}
 use Rattle.rules_next.specs.Meaning.{Meaning}
-use Rattle.rules.specs.Setting.{Env, inserted}
+use Rattle.rules.specs.Setting.{Env}
 use Rattle.rules_next.specs.Setting.{Rewrites, real}
 use Rattle.rules.specs.Driver.{model_of, kept_state, marks_of}
 use Rattle.rules_next.specs.Driver.{notable, noted, mark_all_erased}
@@ -20,10 +20,6 @@ use Rattle.rules.proofs.Marking.{Alive, Known}
 use Rattle.rules_next.proofs.Marking.{lives, keeps}
 use Rattle.rules.proofs.Noting.{Noter, note_all}
 use Rattle.rules.proofs.Noting as noting
-
-pub quiet_inserted : (es : List RecorderEvent) (v : Value) (a b : ℕ) → (es ≡ []) ⊎ (es ≡ event.ValueTypeChanged v a b ∷ []) → inserted es ≡ []
-quiet_inserted es v a b (inl q) = ap inserted q
-quiet_inserted es v a b (inr q) = ap inserted q
 
 pub quiet_erased : (m : Model) (ks : ℕ → StateEntry) (es : List RecorderEvent) (v : Value) (a b : ℕ) → (es ≡ []) ⊎ (es ≡ event.ValueTypeChanged v a b ∷ []) → mark_all_erased m ks es ≡ ks
 quiet_erased m ks es v a b (inl q) = ap (mark_all_erased m ks) q

@@ -27,8 +27,7 @@ use Rattle.rules_next.proofs.Reals.{laws}
 use Rattle.rules.proofs.Marking.{Known, is_queued_lem}
 use Rattle.rules.proofs.Batch.{new_ones}
 use Rattle.rules_next.proofs.Batch.{quiet_batch}
-use Rattle.rules.proofs.Agreeing.{quiet_records}
-use Rattle.rules_next.proofs.Agreeing.{quiet_inserted}
+use Rattle.rules.proofs.Agreeing.{quiet_records, quiet_inserted}
 use Rattle.rules_next.proofs.Follow.{rewrite_lays, as_rewrite}
 use Rattle.rules.proofs.Counting.{other_op}
 

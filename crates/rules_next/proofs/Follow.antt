@@ -30,9 +30,9 @@ use Rattle.rules_next.proofs.Marking.{noted_at, noted_off, known_noted, erased_a
 use Rattle.rules_next.proofs.Batch.{Meets, handled, Lays, laid_batch}
 use Rattle.rules.proofs.Recorded.{AllStand}
 use Rattle.rules.proofs.Chain.{chain_ends}
-use Rattle.rules.proofs.Agreeing.{quiet_records}
+use Rattle.rules.proofs.Agreeing.{quiet_records, quiet_inserted}
 use Rattle.rules.proofs.Noting.{kept_agree, during_agree, aside_agree}
-use Rattle.rules_next.proofs.Agreeing.{quiet_inserted, quiet_erased, noter, wait_agree, wait_known}
+use Rattle.rules_next.proofs.Agreeing.{quiet_erased, noter, wait_agree, wait_known}
 
 module _ {C : Type 0} (M : Meaning C) where
   -- a step of the law, and what is known of the states afterwards

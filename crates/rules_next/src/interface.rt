@@ -3,8 +3,10 @@ ghost use Rattle.std.specs.Prelude.{◌≡◌};
 ghost use Rattle.rules_next.specs.Faults.{number_of, layer_of};
 
 use model::ids::IRNode;
-
-pub use rules::interface::{Answer, ConversionFault, Fate, IRStatus, Layer, OpEvent, OpState, Phase, StateEntry, TrailRecord};
+pub use rules::interface::{
+    Answer, ConversionFault, Fate, IRStatus, Layer, OpEvent, OpState, Phase, StateEntry,
+    TrailRecord,
+};
 
 /// What is counted since the beginning.
 #[derive(Clone, Copy, Debug, PartialEq, Eq, Default)]

@@ -1,5 +1,5 @@
 //! The rules of the driver: what it keeps, what a conversion means to it, and what each step does. They stand in specs/.
-// The rules as they are to become: what differs from the edition that landed stands here, all that is the same is taken from crate `rules`. That edition stays until the driver carries the theorem whole; then it goes.
+// The rules as they are to become: only what differs from the edition that landed, crate `rules`, which has all that both share. There are two since that one stands until the driver carries the theorem whole; then the older one goes.
 #![tactic(auto)]
 
 ghost use Rattle.rules_next.specs.Determined.{RulesDetermined};
