@@ -50,8 +50,7 @@ loop-op-preserved c =
     let xs = c.loop-op.self.entries.now in
     let one = c.in-Some.ensures.steps in
     let l = c.loop-op.invariant.3 in
-    let ok : is_ok c.push_front.result ≡ true = c.push_front.ensures.test ∙ lay_fits m os s.work.now s.entries.now k xs c.push_front.new.memory _ c.next.new.self.iter.rest.now c.in-Some.op.now l one (omega (arith, c.if-ops-self.false, c.len.ensures)) s.fits.worklist.1 in
-    (
+    let ok : is_ok c.push_front.result ≡ true = c.push_front.ensures.test ∙ lay_fits m os s.work.now s.entries.now k xs c.push_front.new.memory _ c.next.new.self.iter.rest.now c.in-Some.op.now l one (omega (arith, c.if-ops-self.false, c.len.ensures)) s.fits.worklist.1 in (
       record { work = c.loop-op.invariant.0.work; entries = c.loop-op.invariant.0.entries; blocks = c.loop-op.invariant.0.blocks; queued = c.loop-op.invariant.0.queued },
       c.loop-op.invariant.1,
       c.loop-op.invariant.2,
