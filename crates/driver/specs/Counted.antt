@@ -12,6 +12,6 @@ pub record Counted (d : Driver) (c : Counts) (p : Phase) (d' : Driver) : Type 0 
   pub counts : d'.counts ≡ c
   pub steps : d'.steps ≡ suc d.steps
   pub phase : d'.phase ≡ p
-  pub changed : d'.changed ≡ d.changed
+  pub status : d'.status ≡ d.status
   pub entries : d'.entries ≡ d.entries
   pub blocks : d'.blocks ≡ d.blocks

@@ -1,3 +1,4 @@
+pub mod Total
 pub mod View
 pub mod New
 pub mod Counted

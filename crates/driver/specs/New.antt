@@ -1,5 +1,6 @@
 -- A new driver.
-use Rattle.std.specs.Prelude.{◌≡◌, false}
+use Rattle.std.specs.Prelude.{◌≡◌}
+use Rattle.rules.specs.declared.interface.IRStatus.TheVariants as status
 use Rattle.rules.specs.declared.interface.Phase.TheVariants as phase
 use Rattle.rules_next.specs.Rules.{no_counts}
 use Rattle.driver.specs.declared.driver.Driver.{Driver}
@@ -9,4 +10,4 @@ pub record IsNew (d : Driver) : Type 0 where
   pub phase : d.phase ≡ phase.NeverBegun
   pub counts : d.counts ≡ no_counts
   pub steps : d.steps ≡ 0
-  pub changed : d.changed ≡ false
+  pub status : d.status ≡ status.Unchanged

@@ -1,10 +1,12 @@
 -- The driver's world.
-use Rattle.std.specs.Prelude.{◌≡◌, List, ◌∷◌, length, Ok, Err, Option, Result}
+use Rattle.std.specs.Prelude.{◌≡◌, Bool, true, false, List, ◌∷◌, length, Ok, Err, Option, Result}
 use Rattle.std.specs.Option.{option_to_list}
 use Rattle.model.specs.declared.ids.OpId.{OpId}
 use Rattle.model.specs.declared.ids.BlockId.{BlockId}
 use Rattle.store.specs.declared.store.Store.{Store}
 use Rattle.conversion.specs.Asked.{seen}
+use Rattle.rules.specs.declared.interface.IRStatus.{IRStatus}
+use Rattle.rules.specs.declared.interface.IRStatus.TheVariants as status
 use Rattle.rules.specs.declared.interface.TrailRecord.{TrailRecord}
 use Rattle.rules_next.specs.declared.interface.Failure.{Failure}
 use Rattle.rules_next.specs.Meaning.{Meaning}
@@ -18,6 +20,11 @@ use Rattle.driver.specs.declared.driver.Driver.{Driver}
 abbrev pub room : Driver → Room
 room d = record { entries = d.entries; blocks = d.blocks }
 
+-- was a record made since the beginning?
+abbrev pub is_changed : IRStatus → Bool
+is_changed status.Changed = true
+is_changed status.Unchanged = false
+
 -- a store, a conversion and a driver, with the memory that is lent
 abbrev pub world_of : {C : Type 0} → Store → C → Driver → List OpId → List BlockId → World C
 world_of s c d xs ys = record {
@@ -26,7 +33,7 @@ world_of s c d xs ys = record {
   counts = d.counts;
   steps = d.steps;
   phase = d.phase;
-  changed = d.changed;
+  changed = is_changed d.status;
   room = room d;
 }
 

@@ -1,11 +1,12 @@
 //! What the driver keeps.
-ghost use Rattle.std.specs.Prelude.{◌≡◌, ◌+◌, ◌-◌, ◌*◌, ◌≤◌, length, if◌then◌else◌};
+ghost use Rattle.std.specs.Prelude.{◌≡◌, ◌+◌, ◌-◌, ◌*◌, ◌^◌, ◌≤◌, length, if◌then◌else◌};
 ghost use Rattle.rewriter.specs.Recorded.{recorded};
 ghost use Rattle.rules_next.specs.Rules.{is_begun};
+ghost use Rattle.driver.specs.Total.{total};
 
 use histories::Histories;
 use rewriter::{IRRewriter, Recorder};
-use rules_next::interface::{Counts, Phase};
+use rules_next::interface::{Counts, IRStatus, Phase};
 use walkers::Nodes;
 use work::Work;
 
@@ -25,7 +26,7 @@ pub struct Driver {
     steps: u64,
     phase: Phase,
     /// Was a record made since the beginning?
-    changed: bool,
+    status: IRStatus,
     /// How many operations and blocks the memory has room for.
     entries: usize,
     blocks: usize,
@@ -33,7 +34,7 @@ pub struct Driver {
     ghost worklist_count: { work.worklist.count ≤ entries },
     ghost pending_front: { work.pending.front ≤ blocks - 1 },
     ghost pending_count: { work.pending.count ≤ blocks },
-    ghost short: { steps ≤ 1099511627776 },
-    ghost few: { counts.queued + counts.taken + counts.rewritten + counts.aside + counts.waits + counts.stale + counts.questions ≤ 2048 * (steps + 1) },
+    ghost short: { steps ≤ 2 ^ 40 },
+    ghost few: { total counts ≤ 2048 * (steps + 1) },
     ghost clear: { (if is_begun phase then length (recorded rewriter.listener) else 0) ≡ 0 },
 }

@@ -2,14 +2,15 @@
 use Rattle.std.specs.Prelude.{◌≡◌, ℕ, List, Option, Result}
 use Rattle.model.specs.declared.ids.OpId.{OpId}
 use Rattle.calls.specs.declared.events.RecorderEvent.{RecorderEvent}
+use Rattle.queue.specs.Contents.{contents}
 use Rattle.rules_next.specs.declared.interface.Fault.{Fault}
 use Rattle.rules_next.specs.Meaning.{Meaning}
 use Rattle.rules.specs.Histories.{History}
 use Rattle.rules.specs.Setting.{Env}
-use Rattle.rules.specs.Driver.{Room}
+use Rattle.rules.specs.Driver.{Pending, Room}
 use Rattle.rules_next.specs.Driver.{Load, Handled}
 use Rattle.work.specs.declared.work.lent.Lent.{Lent}
-use Rattle.work.specs.Work.{Met}
+use Rattle.work.specs.Work.{pending_in, Met}
 use Rattle.work.specs.Batches.{HandledBy}
 
 -- the same work and the same memory are lent
@@ -18,6 +19,13 @@ pub record Same (s s' : Lent) : Type 0 where
   pub entries : s'.entries.ghost_name ≡ s.entries.ghost_name
   pub blocks : s'.blocks.ghost_name ≡ s.blocks.ghost_name
   pub queued : s'.queued.ghost_name ≡ s.queued.ghost_name
+
+-- the worklist, and the blocks that are pending
+abbrev pub worklist_of : Lent → List OpId
+worklist_of s = contents s.work.now.worklist s.entries.now
+
+abbrev pub pending_of : Lent → List Pending
+pending_of s = pending_in s.work.now s.blocks.now
 
 -- a batch F that meets at most n operations leads from the one to the other; r is how it ends
 pub record MetBy {C : Type 0} {M : Meaning C} (F : Room → Load M → Handled M) (n : ℕ) (s s' : Lent) (r : Result (Unit {0}) Fault) : Type 0 where

@@ -2,3 +2,4 @@ pub mod Work
 pub mod Waiting
 pub mod Batches
 pub mod Lent
+pub mod Setting

@@ -1,9 +1,10 @@
 //! Counting.
-ghost use Rattle.std.specs.Prelude.{◌≡◌, ◌+◌, ◌<◌, ◌≤◌, Some};
+ghost use Rattle.std.specs.Prelude.{◌≡◌, ◌+◌, ◌*◌, ◌^◌, ◌<◌, ◌≤◌, Some};
 ghost use Rattle.rules.specs.declared.interface.Phase.TheVariants.{Closed};
 ghost use Rattle.rules_next.specs.Rules.{took_one, fated, with_queued};
 ghost use Rattle.model.specs.declared.ids.IRNode.TheVariants.{Operation};
 ghost use Rattle.driver.specs.Counted.{Counted};
+ghost use Rattle.driver.specs.Total.{total};
 
 use super::Driver;
 use model::ids::{IRNode, OpId};
@@ -12,7 +13,7 @@ use rules_next::interface::{Counts, Failure, Fate, Fault, Phase, TrailRecord};
 // Stays: a function, for `Counts` is of another crate, and no method can be added to it here.
 /// `counts` with one more entry that met this fate.
 fn add_fate(counts: Counts, fate: Fate) -> Counts
-    requires { counts.queued + counts.taken + counts.rewritten + counts.aside + counts.waits + counts.stale + counts.questions < 2251799813687296 }
+    requires { total counts < 2048 * (2 ^ 40 + 1) }
     ensures { result ≡ fated counts fate }
 {
     match fate {
@@ -36,20 +37,29 @@ fn add_fate(counts: Counts, fate: Fate) -> Counts
 }
 
 impl Driver {
+    /// One step more, which took an entry; `queued` operations have ever been queued now.
+    fn take_entry(&mut self, queued: u64)
+        requires steps { self.old.steps < 2 ^ 40 }
+        requires few { queued ≤ self.old.counts.queued + 1024 }
+        ensures { Counted self.old (with_queued (took_one self.old.counts) queued) self.old.phase self.new }
+    {
+        self.counts = Counts {
+            queued,
+            taken: self.counts.taken + 1,
+            ..self.counts
+        };
+        self.steps += 1;
+    }
+
     /// The step that took the entry of `op` ends so; `queued` operations have ever been queued now.
     pub fn count_entry(&mut self, op: OpId, fate: Fate, queued: u64) -> TrailRecord
-        requires steps { self.old.steps < 1099511627776 }
+        requires steps { self.old.steps < 2 ^ 40 }
         requires few { queued ≤ self.old.counts.queued + 1024 }
         ensures record { result ≡ record { operation = op; fate = fate } }
         ensures counted { Counted self.old (with_queued (fated (took_one self.old.counts) fate) queued) self.old.phase self.new }
     {
-        let taken = Counts {
-            taken: self.counts.taken + 1,
-            ..self.counts
-        };
-        let counts = add_fate(taken, fate);
-        self.counts = Counts { queued, ..counts };
-        self.steps += 1;
+        self.take_entry(queued);
+        self.counts = add_fate(self.counts, fate);
         TrailRecord {
             operation: op,
             fate,
@@ -58,17 +68,12 @@ impl Driver {
 
     /// The step that took the entry of `op` ends in a fault, which closes the conversion.
     pub fn close_entry(&mut self, op: OpId, fault: Fault, queued: u64) -> Failure
-        requires steps { self.old.steps < 1099511627776 }
+        requires steps { self.old.steps < 2 ^ 40 }
         requires few { queued ≤ self.old.counts.queued + 1024 }
         ensures failure { result ≡ record { fault = fault; hand = Some (Operation op) } }
         ensures counted { Counted self.old (with_queued (took_one self.old.counts) queued) Closed self.new }
     {
-        self.counts = Counts {
-            queued,
-            taken: self.counts.taken + 1,
-            ..self.counts
-        };
-        self.steps += 1;
+        self.take_entry(queued);
         self.phase = Phase::Closed;
         Failure {
             fault,

@@ -6,7 +6,7 @@ use super::Driver;
 use histories::Histories;
 use queue::Queue;
 use rewriter::{IRRewriter, Recorder};
-use rules_next::interface::{Counts, Phase};
+use rules_next::interface::{Counts, IRStatus, Phase};
 use states::States;
 use std::alloc::{AllocError, Global};
 use walkers::Nodes;
@@ -35,7 +35,7 @@ impl Driver {
             counts: Counts::default(),
             steps: 0,
             phase: Phase::NeverBegun,
-            changed: false,
+            status: IRStatus::Unchanged,
             entries: 0,
             blocks: 0,
         })

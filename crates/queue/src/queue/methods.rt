@@ -1,4 +1,4 @@
-//! The calls. Each is lent the same memory, and needs that the queue lies within it.
+//! The calls. Those that are lent the memory are lent the same at each, and need that the queue lies within it.
 ghost use Rattle.std.specs.Prelude.{◌≡◌, ◌+◌, ◌-◌, [], ◌∷◌, ◌++◌, length, is_some, is_ok, OnOk, OnErr, ◌==◌, nat_lt};
 ghost use Rattle.std.specs.Option.{option_to_list};
 ghost use Rattle.std.specs.List.{slice_get};
@@ -6,7 +6,7 @@ ghost use Rattle.queue.specs.Contents.{contents, Within};
 
 use super::{Full, Queue};
 
-// Stays: a handle over a queue and its memory would carry `Within`, but each call would then promise that both references stay, and reading would take `&mut [T]`.
+// Stays: a rule of the project, a ring over a slice lent at each call; a handle over both would only carry `Within`.
 impl Queue {
     pub fn new() -> Queue
         ensures front { result.front ≡ 0 }

@@ -1,11 +1,10 @@
 //! A whole batch of records.
 ghost use Rattle.std.specs.Prelude.{◌≡◌, ◌+◌, ◌^◌, ◌<◌, length, is_ok, IsOkUnless};
-ghost use Rattle.store.specs.Meaning.{meaning as model};
 ghost use Rattle.histories.specs.Many.{kept};
 ghost use Rattle.rules_next.specs.declared.interface.Fault.TheVariants.{HistoryFull};
-ghost use Rattle.states.specs.Due.{at};
 ghost use Rattle.work.specs.Lent.{Handles};
 ghost use Rattle.work.specs.Batches.{record_all};
+ghost use Rattle.work.specs.Setting.{env_of};
 
 use super::handling::mark_all_erased;
 use super::lent::Lent;
@@ -36,7 +35,7 @@ pub fn handle_events<C: DialectConversion>(
     events: &[RecorderEvent],
 ) -> Result<(), Fault>
     requires room { lent.old.queued.now + length events.now < 2 ^ 64 }
-    ensures { Handles C.DialectConversion.meaning (at (model setting.now.store.now) setting.now.conversion.now) setting.now.hand events.now lent.old (kept histories.old) lent.new (kept histories.new) result }
+    ensures { Handles C.meaning (env_of setting.now) setting.now.hand events.now lent.old (kept histories.old) lent.new (kept histories.new) result }
 {
     mark_all_erased(&mut lent.work.states, setting.store, events);
     record_all(histories, events)?;

@@ -5,8 +5,8 @@ ghost use Rattle.store.specs.Meaning.{meaning as model};
 ghost use Rattle.rules.specs.Setting.{block_erased, inserted_by, inserted};
 ghost use Rattle.rules_next.specs.Driver.{mark_erased, mark_all_erased, meet_nodes};
 ghost use Rattle.states.specs.States.{states_in};
-ghost use Rattle.states.specs.Due.{at};
 ghost use Rattle.work.specs.Lent.{MetBy};
+ghost use Rattle.work.specs.Setting.{env_of};
 
 use super::lent::Lent;
 use super::meeting::Setting;
@@ -64,7 +64,7 @@ impl Lent<'_> {
         event: RecorderEvent,
     ) -> Result<(), Fault>
         requires room { self.old.queued.now + 1 < 2 ^ 64 }
-        ensures { MetBy (λ room l. meet_nodes C.DialectConversion.meaning (at (model setting.now.store.now) setting.now.conversion.now) room setting.now.hand l (inserted_by events.now event)) 1 self.old self.new result }
+        ensures { MetBy (λ room l. meet_nodes C.meaning (env_of setting.now) room setting.now.hand l (inserted_by events.now event)) 1 self.old self.new result }
     {
         match inserted_node(events, event) {
             Some(node) => self.meet_node(setting, node),
@@ -79,7 +79,7 @@ impl Lent<'_> {
         events: &[RecorderEvent],
     ) -> Result<(), Fault>
         requires room { self.old.queued.now + length events.now < 2 ^ 64 }
-        ensures { MetBy (λ room l. meet_nodes C.DialectConversion.meaning (at (model setting.now.store.now) setting.now.conversion.now) room setting.now.hand l (inserted events.now)) (length events.now) self.old self.new result }
+        ensures { MetBy (λ room l. meet_nodes C.meaning (env_of setting.now) room setting.now.hand l (inserted events.now)) (length events.now) self.old self.new result }
     {
         for event in events {
             self.meet_event(setting, events, *event)?;

@@ -1,16 +1,14 @@
 //! Operations and blocks that a walk meets, or that a record says were inserted.
 ghost use Rattle.std.specs.Prelude.{◌≡◌, ◌+◌, ◌^◌, ◌<◌, [], ◌∷◌, ◌++◌, length, is_ok, if◌then◌else◌, nat_eq, nat_lt, IsOkUnless};
-ghost use Rattle.store.specs.Meaning.{meaning as model};
-ghost use Rattle.queue.specs.Contents.{Within};
 ghost use Rattle.law.specs.Machine.{newly};
 ghost use Rattle.rules_next.specs.declared.interface.Fault.TheVariants.{Full};
 ghost use Rattle.rules_next.specs.Setting.{real};
 ghost use Rattle.rules.specs.Driver.{marks_of};
 ghost use Rattle.rules_next.specs.Driver.{meet_op, meet_nodes};
 ghost use Rattle.states.specs.States.{states_in};
-ghost use Rattle.states.specs.Due.{at};
-ghost use Rattle.work.specs.Lent.{MetBy};
-ghost use Rattle.work.specs.Work.{waiting, pending_in};
+ghost use Rattle.work.specs.Lent.{Same, pending_of, MetBy};
+ghost use Rattle.work.specs.Work.{waiting};
+ghost use Rattle.work.specs.Setting.{env_of};
 
 use super::Work;
 use super::lent::Lent;
@@ -32,7 +30,7 @@ pub struct Setting<'a, C> {
 impl<C: DialectConversion> Setting<'_, C> {
     /// Is `op` to be rewritten, and has it no entry?
     fn is_new(&self, states: &States, op: OpId) -> bool
-        ensures { result ≡ newly (real C.DialectConversion.meaning) (at (model self.now.store.now) self.now.conversion.now) (marks_of (states_in states.now)) op }
+        ensures { result ≡ newly (real C.meaning) (env_of self.now) (marks_of (states_in states.now)) op }
     {
         matches!(states.state(self.store, op), OpState::Unmarked)
             && self.conversion.can_convert_op(self.store, op)
@@ -50,23 +48,6 @@ impl Work {
             self.next_argument
         }
     }
-
-    /// `block` is met: its arguments are to be asked about.
-    fn meet_block(&mut self, blocks: &mut [BlockId], block: BlockId) -> Result<(), Fault>
-        requires { Within self.old.pending blocks.old }
-        ensures within { Within self.new.pending blocks.new }
-        ensures worklist { self.new.worklist ≡ self.old.worklist }
-        ensures states { self.new.states ≡ self.old.states }
-        ensures size { length blocks.new ≡ length blocks.old }
-        ensures test { is_ok result ≡ nat_lt (length (pending_in self.old blocks.old)) (length blocks.old) }
-        ensures fault { IsOkUnless result Full }
-        ensures pending { pending_in self.new blocks.new ≡ (if is_ok result then pending_in self.old blocks.old ++ waiting block ∷ [] else pending_in self.old blocks.old) }
-    {
-        self.next_argument = self.first_argument();
-        self.pending
-            .push_back(blocks, block)
-            .map_err(|_| Fault::Full)
-    }
 }
 
 impl Lent<'_> {
@@ -78,7 +59,7 @@ impl Lent<'_> {
         op: OpId,
     ) -> Result<(), Fault>
         requires { self.old.queued.now + 1 < 2 ^ 64 }
-        ensures { MetBy (λ room l. meet_op C.DialectConversion.meaning (at (model setting.now.store.now) setting.now.conversion.now) room setting.now.hand l op) 1 self.old self.new result }
+        ensures { MetBy (λ room l. meet_op C.meaning (env_of setting.now) room setting.now.hand l op) 1 self.old self.new result }
     {
         if !setting.is_new(&self.work.states, op) {
             return Ok(());
@@ -94,6 +75,25 @@ impl Lent<'_> {
         Ok(())
     }
 
+    /// `block` is met: its arguments are to be asked about.
+    fn meet_block(&mut self, block: BlockId) -> Result<(), Fault>
+        ensures same { Same self.old self.new }
+        ensures entries { self.new.entries.now ≡ self.old.entries.now }
+        ensures queued { self.new.queued.now ≡ self.old.queued.now }
+        ensures worklist { self.new.work.now.worklist ≡ self.old.work.now.worklist }
+        ensures states { self.new.work.now.states ≡ self.old.work.now.states }
+        ensures size { length self.new.blocks.now ≡ length self.old.blocks.now }
+        ensures test { is_ok result ≡ nat_lt (length (pending_of self.old)) (length self.old.blocks.now) }
+        ensures fault { IsOkUnless result Full }
+        ensures pending { pending_of self.new ≡ (if is_ok result then pending_of self.old ++ waiting block ∷ [] else pending_of self.old) }
+    {
+        self.work.next_argument = self.work.first_argument();
+        self.work
+            .pending
+            .push_back(self.blocks, block)
+            .map_err(|_| Fault::Full)
+    }
+
     /// `node` is met. What lies in a region is met by itself.
     pub fn meet_node<C: DialectConversion>(
         &mut self,
@@ -101,11 +101,11 @@ impl Lent<'_> {
         node: IRNode,
     ) -> Result<(), Fault>
         requires room { self.old.queued.now + 1 < 2 ^ 64 }
-        ensures { MetBy (λ room l. meet_nodes C.DialectConversion.meaning (at (model setting.now.store.now) setting.now.conversion.now) room setting.now.hand l (node ∷ [])) 1 self.old self.new result }
+        ensures { MetBy (λ room l. meet_nodes C.meaning (env_of setting.now) room setting.now.hand l (node ∷ [])) 1 self.old self.new result }
     {
         match node {
             IRNode::Operation(op) => self.meet_op(setting, op),
-            IRNode::BasicBlock(block) => self.work.meet_block(self.blocks, block),
+            IRNode::BasicBlock(block) => self.meet_block(block),
             IRNode::Region(_) => Ok(()),
         }
     }
@@ -117,7 +117,7 @@ impl Lent<'_> {
         nodes: &[IRNode],
     ) -> Result<(), Fault>
         requires room { self.old.queued.now + length nodes.now < 2 ^ 64 }
-        ensures { MetBy (λ room l. meet_nodes C.DialectConversion.meaning (at (model setting.now.store.now) setting.now.conversion.now) room setting.now.hand l nodes.now) (length nodes.now) self.old self.new result }
+        ensures { MetBy (λ room l. meet_nodes C.meaning (env_of setting.now) room setting.now.hand l nodes.now) (length nodes.now) self.old self.new result }
     {
         for node in nodes {
             self.meet_node(setting, *node)?;

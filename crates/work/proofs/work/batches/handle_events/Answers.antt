@@ -1,11 +1,10 @@
 use Rattle.std.proofs.Common.{Err, sym, refl, ap, ◌∙◌, subst, arith}
 use Rattle.std.proofs.lemmas.Result.{err_from_is_err_and}
-use Rattle.store.specs.Meaning.{meaning as model}
 use Rattle.queue.specs.Contents.{contents}
 use Rattle.histories.specs.Many.{kept}
 use Rattle.rules.specs.Setting.{inserted}
 use Rattle.rules_next.specs.Driver.{meet_nodes}
-use Rattle.states.specs.Due.{at}
+use Rattle.work.specs.Setting.{env_of}
 use Rattle.work.specs.declared.work.Work.{Work}
 use Rattle.work.specs.Work.{pending_in, memory_of, room_of, load_of, Leaves}
 use Rattle.work.specs.Batches.{HandledBy}
@@ -15,7 +14,7 @@ use Rattle.work.proofs.work.batches.handle_events.Goals as goal
 pub returns-in_err-record_all : goal.returns-in_err-record_all
 returns-in_err-record_all g c =
     let M = g.C.DialectConversion.meaning in
-    let e = at (model c.args.setting.now.store.now) c.args.setting.now.conversion.now in
+    let e = env_of c.args.setting.now in
     let k = c.args.lent.now.work.now in
     let k₁ : Work = record { states = c.mark_all_erased.new.states; worklist = k.worklist; pending = k.pending; next_argument = k.next_argument } in
     let xs = c.args.lent.now.entries.now in
@@ -41,7 +40,7 @@ returns-in_err-record_all g c =
 pub returns-in_err-meet_inserted : goal.returns-in_err-meet_inserted
 returns-in_err-meet_inserted g c =
     let M = g.C.DialectConversion.meaning in
-    let e = at (model c.args.setting.now.store.now) c.args.setting.now.conversion.now in
+    let e = env_of c.args.setting.now in
     let k = c.args.lent.now.work.now in
     let k₁ : Work = record { states = c.mark_all_erased.new.states; worklist = k.worklist; pending = k.pending; next_argument = k.next_argument } in
     let xs = c.args.lent.now.entries.now in
@@ -68,7 +67,7 @@ returns-in_err-meet_inserted g c =
 pub returns : goal.returns
 returns g c =
     let M = g.C.DialectConversion.meaning in
-    let e = at (model c.args.setting.now.store.now) c.args.setting.now.conversion.now in
+    let e = env_of c.args.setting.now in
     let k = c.args.lent.now.work.now in
     let k₁ : Work = record { states = c.mark_all_erased.new.states; worklist = k.worklist; pending = k.pending; next_argument = k.next_argument } in
     let xs = c.args.lent.now.entries.now in

@@ -1,8 +1,7 @@
 use Rattle.std.proofs.Common.{◌+◌, length, get_or, drop, Err, sym, refl, ap, ◌∙◌, subst, arith}
 use Rattle.std.proofs.lemmas.List.{drop_more, drop_all}
-use Rattle.store.specs.Meaning.{meaning as model}
 use Rattle.rules_next.specs.Driver.{meet_nodes}
-use Rattle.states.specs.Due.{at}
+use Rattle.work.specs.Setting.{env_of}
 use Rattle.work.specs.Work.{Met}
 use Rattle.std.proofs.lemmas.Result.{err_from_is_err_and}
 use Rattle.std.specs.List.{flat_map}
@@ -14,7 +13,7 @@ use Rattle.work.proofs.work.lent.Lent.meet_inserted.Goals as goal
 pub loop-event-init : goal.loop-event-init
 loop-event-init g c =
     let M = g.C.DialectConversion.meaning in
-    let e = at (model c.args.setting.now.store.now) c.args.setting.now.conversion.now in
+    let e = env_of c.args.setting.now in
     let es = c.args.events.now in
     let ns = inserted es in (
       record { work = refl; entries = refl; blocks = refl; queued = refl },
@@ -27,7 +26,7 @@ meet_event-requires g c = omega (arith, c.loop-event.invariant.1.few, c.loop-eve
 pub returns-in_err-meet_event : goal.returns-in_err-meet_event
 returns-in_err-meet_event g c =
     let M = g.C.DialectConversion.meaning in
-    let e = at (model c.args.setting.now.store.now) c.args.setting.now.conversion.now in
+    let e = env_of c.args.setting.now in
     let es = c.args.events.now in
     let ns = inserted es in
     let i = c.loop-event.event-index in
@@ -44,7 +43,7 @@ returns-in_err-meet_event g c =
 pub loop-event-preserved : goal.loop-event-preserved
 loop-event-preserved g c =
     let M = g.C.DialectConversion.meaning in
-    let e = at (model c.args.setting.now.store.now) c.args.setting.now.conversion.now in
+    let e = env_of c.args.setting.now in
     let es = c.args.events.now in
     let ns = inserted es in
     let i = c.loop-event.event-index in
@@ -55,7 +54,7 @@ loop-event-preserved g c =
 pub returns : goal.returns
 returns g c =
     let M = g.C.DialectConversion.meaning in
-    let e = at (model c.args.setting.now.store.now) c.args.setting.now.conversion.now in
+    let e = env_of c.args.setting.now in
     let es = c.args.events.now in
     let ns = inserted es in
     record {

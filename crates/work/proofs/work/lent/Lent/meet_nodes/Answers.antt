@@ -1,8 +1,7 @@
 use Rattle.std.proofs.Common.{◌+◌, [], ◌∷◌, length, get_or, drop, Err, sym, refl, ap, ◌∙◌, subst, arith}
 use Rattle.std.proofs.lemmas.List.{drop_more, drop_all}
-use Rattle.store.specs.Meaning.{meaning as model}
 use Rattle.rules_next.specs.Driver.{meet_nodes}
-use Rattle.states.specs.Due.{at}
+use Rattle.work.specs.Setting.{env_of}
 use Rattle.work.specs.Work.{Met}
 use Rattle.std.proofs.lemmas.Result.{err_from_is_err_and}
 use Rattle.model.specs.declared.ids.IRNode.{IRNode}
@@ -16,7 +15,7 @@ zero_node = node.Operation (record { slot = 0; generation = 0 })
 pub loop-node-init : goal.loop-node-init
 loop-node-init g c =
     let M = g.C.DialectConversion.meaning in
-    let e = at (model c.args.setting.now.store.now) c.args.setting.now.conversion.now in
+    let e = env_of c.args.setting.now in
     let ns = c.args.nodes.now in (
       record { work = refl; entries = refl; blocks = refl; queued = refl },
       starts {M = M} (λ room s. meet_nodes M e room c.args.setting.now.hand s ns) e c.args.setting.now.hand c.args.self.now.work.now c.args.self.now.entries.now c.args.self.now.blocks.now c.args.self.now.queued.now ns c.args.self.now.fits (λ room l. refl),
@@ -28,7 +27,7 @@ meet_node-requires g c = omega (arith, c.loop-node.invariant.1.few, c.loop-node-
 pub returns-in_err-meet_node : goal.returns-in_err-meet_node
 returns-in_err-meet_node g c =
     let M = g.C.DialectConversion.meaning in
-    let e = at (model c.args.setting.now.store.now) c.args.setting.now.conversion.now in
+    let e = env_of c.args.setting.now in
     let ns = c.args.nodes.now in
     let i = c.loop-node.node-index in
     let p = err_from_is_err_and c.from_residual.result c.from_residual.ensures.1 in
@@ -44,7 +43,7 @@ returns-in_err-meet_node g c =
 pub loop-node-preserved : goal.loop-node-preserved
 loop-node-preserved g c =
     let M = g.C.DialectConversion.meaning in
-    let e = at (model c.args.setting.now.store.now) c.args.setting.now.conversion.now in
+    let e = env_of c.args.setting.now in
     let ns = c.args.nodes.now in
     let i = c.loop-node.node-index in
     let t = subst (Turning {M = M} (λ room s. meet_nodes M e room c.args.setting.now.hand s ns) e c.args.setting.now.hand c.args.self.now.work.now c.args.self.now.entries.now c.args.self.now.blocks.now c.args.self.now.queued.now c.loop-node.self.work.now c.loop-node.self.entries.now c.loop-node.self.blocks.now c.loop-node.self.queued.now i) (drop_more ns i zero_node c.loop-node-test.true) c.loop-node.invariant.1 in
@@ -54,7 +53,7 @@ loop-node-preserved g c =
 pub returns : goal.returns
 returns g c =
     let M = g.C.DialectConversion.meaning in
-    let e = at (model c.args.setting.now.store.now) c.args.setting.now.conversion.now in
+    let e = env_of c.args.setting.now in
     let ns = c.args.nodes.now in
     record {
       same = c.loop-node.invariant.0;
