@@ -1,15 +1,18 @@
 -- Where the history of a value stands.
-use Rattle.std.proofs.Common.{◌≡◌, ℕ, suc, ◌+◌, ◌<◌, ◌≤◌, Bool, true, false, cond, ltb, List, [], ◌∷◌, length, get_or, Some, None, sym, refl, ap, ◌∙◌, arith}
-use Rattle.std.specs.List.{position, position_or_len}
-use Rattle.std.proofs.lemmas.Bool.{ltb-true, ltb-false}
-use Rattle.std.proofs.lemmas.List.{length-map, get_or-map}
+use Rattle.std.proofs.Common.{◌≡◌, ℕ, suc, ◌+◌, ◌<◌, ◌≤◌, Bool, true, false, cond, ltb, List, [], ◌∷◌, length, is_some, Some, None, Option, Bor, sym, refl, ap, ◌∙◌, inl, inr, arith}
+use Rattle.std.specs.List.{find, position, position_or_len}
+use Rattle.std.specs.Option.{MatchOption, option_map}
+use Rattle.std.proofs.lemmas.Bool.{cases_Bool, lt-ltb, le-ltb, ltb-true, ltb-false}
+use Rattle.std.proofs.lemmas.List.{length-map}
 use Rattle.std.proofs.lemmas.List.Recursion.{is_position_or_len}
+use Rattle.row.specs.declared.row.Row.{Row}
+use Rattle.row.specs.Items.{row_items}
 use Rattle.model.specs.declared.ids.Value.{Value}
 use Rattle.model.specs.Calls.{same_value}
 use Rattle.model.specs.contracts.ids.ValuePartialEq.TheImpl.{ghosts}
 use Rattle.rules.specs.Histories.{History, types_had}
 use Rattle.histories.specs.declared.history.TypeHistory.{TypeHistory}
-use Rattle.histories.specs.Kept.{history, histories, place_of, is_kept, place_in}
+use Rattle.histories.specs.Kept.{history, histories, place_of, is_kept, place_in, history_in}
 use Rattle.model.proofs.Equal.{value_eq}
 
 -- the first entry of the value is the one that is looked for
@@ -38,35 +41,59 @@ module _ (hs : List History) (v : Value) where
       at true e h = let z : ◌≡◌ {A = ℕ} 0 1 = cc in absurd (omega arith)
       at false e h = ltb-false _ _ e
 
-module _ (v : Value) where
-  types_there : (hs : List History) (d : History) → place_of hs v < length hs → types_had hs v ≡ (get_or hs (place_of hs v) d).types
-  types_there [] d h = let no : ⊥ = omega arith in absurd no
-  types_there (x ∷ hs) d h = at (same_value x.value v) h (types_there hs d)
-    where
-      at : (b : Bool) → cond b 0 (suc (place_of hs v)) < suc (length hs) → (place_of hs v < length hs → types_had hs v ≡ (get_or hs (place_of hs v) d).types)
-          → cond b x.types (types_had hs v) ≡ (get_or (x ∷ hs) (cond b 0 (suc (place_of hs v))) d).types
-      at true l rest = refl
-      at false l rest = rest (omega arith)
-
-  types_nowhere : (hs : List History) → length hs ≤ place_of hs v → types_had hs v ≡ []
-  types_nowhere [] h = refl
-  types_nowhere (x ∷ hs) h = at (same_value x.value v) h (types_nowhere hs)
-    where
-      at : (b : Bool) → suc (length hs) ≤ cond b 0 (suc (place_of hs v)) → (length hs ≤ place_of hs v → types_had hs v ≡ []) → cond b x.types (types_had hs v) ≡ []
-      at true l rest = let no : ⊥ = omega arith in absurd no
-      at false l rest = rest (omega arith)
-
 -- what a look-up finds
 module _ (xs : List TypeHistory) (v : Value) where
   pub place_read : (p : ℕ) → Some p ≡ place_in (histories xs) v → (p ≡ place_of (histories xs) v) × (p < length xs)
   place_read p e = let q = place_some (histories xs) v p e in (q.0, omega (arith, q.0, q.1, length-map xs history))
 
-  pub types_read : (p : ℕ) (d : TypeHistory) → Some p ≡ place_in (histories xs) v → (history (get_or xs p d)).types ≡ types_had (histories xs) v
-  types_read p d e =
-      let q = place_some (histories xs) v p e in
-      sym (ap (λ (y : History). y.types) (get_or-map history xs p d (history d) (place_read p e).1))
-      ∙ ap (λ n. (get_or (histories xs) n (history d)).types) q.0
-      ∙ sym (types_there v (histories xs) (history d) q.1)
+found_in : (v : Value) (xs : List TypeHistory) → option_map history (find (λ (x : TypeHistory). ghosts.eq x.value v) xs) ≡ history_in (histories xs) v
+found_in v [] = refl
+found_in v (x ∷ xs) = at (ghosts.eq x.value v) (found_in v xs) ∙ ap (λ b. cond b (Some (history x)) (history_in (histories xs) v)) (value_eq x.value v)
+  where
+    at : (b : Bool) → option_map history (find (λ (y : TypeHistory). ghosts.eq y.value v) xs) ≡ history_in (histories xs) v
+        → option_map history (cond b (Some x) (find (λ (y : TypeHistory). ghosts.eq y.value v) xs)) ≡ cond b (Some (history x)) (history_in (histories xs) v)
+    at true e = refl
+    at false e = e
 
-  pub types_unread : None ≡ place_in (histories xs) v → [] ≡ types_had (histories xs) v
-  types_unread e = sym (types_nowhere v (histories xs) (place_none (histories xs) v e))
+read_of : (r : Option (Bor TypeHistory)) → option_map (λ h. history h.now) r ≡ option_map history (option_map (λ h. h.now) r)
+read_of None = refl
+read_of (Some h) = refl
+
+pub entry_found : (v : Value) (xs : List TypeHistory) (r : Option (Bor TypeHistory)) → option_map (λ h. h.now) r ≡ find (λ (x : TypeHistory). ghosts.eq x.value v) xs
+    → option_map (λ h. history h.now) r ≡ history_in (histories xs) v
+entry_found v xs r e = read_of r ∙ ap (option_map history) e ∙ found_in v xs
+
+-- and what that says of the types
+abbrev pub types_in : Option History → List ℕ
+types_in None = []
+types_in (Some h) = h.types
+
+pub types_found : (v : Value) (hs : List History) → types_in (history_in hs v) ≡ types_had hs v
+types_found v [] = refl
+types_found v (h ∷ hs) = at (same_value h.value v) (types_found v hs)
+  where
+    at : (b : Bool) → types_in (history_in hs v) ≡ types_had hs v → types_in (cond b (Some h) (history_in hs v)) ≡ cond b h.types (types_had hs v)
+    at true e = refl
+    at false e = e
+
+pub types_read : (r : Option (Bor TypeHistory)) (types : Row ℕ 16) → MatchOption r (row_items types ≡ []) (λ h. types ≡ h.now.types) → row_items types ≡ types_in (option_map (λ h. history h.now) r)
+types_read None types e = e
+types_read (Some h) types e = ap row_items e
+
+pub kept_found : (v : Value) (r : Option (Bor TypeHistory)) (hs : List History) → option_map (λ h. history h.now) r ≡ history_in hs v → is_some r ≡ is_kept hs v
+kept_found v r hs e = reads r ∙ ap is_some e ∙ there hs
+  where
+    reads : (r : Option (Bor TypeHistory)) → is_some r ≡ is_some (option_map (λ h. history h.now) r)
+    reads None = refl
+    reads (Some h) = refl
+
+    there : (hs : List History) → is_some (history_in hs v) ≡ is_kept hs v
+    there [] = refl
+    there (h ∷ hs) = at (same_value h.value v) (there hs)
+      where
+        at : (b : Bool) → is_some (history_in hs v) ≡ is_kept hs v → is_some (cond b (Some h) (history_in hs v)) ≡ ltb (cond b 0 (suc (place_of hs v))) (suc (length hs))
+        at true e = sym (lt-ltb _ _ (omega arith))
+        at false e = elim (cases_Bool (is_kept hs v)) [
+          | inl t ↦ e ∙ t ∙ sym (lt-ltb _ _ (omega (arith, ltb-true _ _ t)))
+          | inr f ↦ e ∙ f ∙ sym (le-ltb _ _ (omega (arith, ltb-false _ _ f)))
+        ]

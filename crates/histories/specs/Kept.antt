@@ -28,6 +28,11 @@ is_kept hs v = nat_lt (place_of hs v) (length hs)
 abbrev pub place_in : List History → Value → Option ℕ
 place_in hs v = cond (is_kept hs v) (Some (place_of hs v)) None
 
+-- the history of a value, if it has one
+abbrev pub history_in : List History → Value → Option History
+history_in [] v = None
+history_in (h ∷ hs) v = cond (same_value h.value v) (Some h) (history_in hs v)
+
 -- how many histories there are once the value has one
 abbrev pub size_with : List History → Value → ℕ
 size_with hs v = cond (is_kept hs v) (length hs) (length hs + 1)

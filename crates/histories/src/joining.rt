@@ -4,10 +4,11 @@ ghost use Rattle.row.specs.Items.{row_items};
 ghost use Rattle.model.specs.Erasing.{less};
 ghost use Rattle.rules.specs.Histories.{add_type, add_types};
 
+use crate::history::MAX_TYPES;
 use row::Row;
 
 /// So many types there may be before the limit is tested: what the one value had, what the other had, and one more.
-pub const JOINED_TYPES: usize = 33;
+pub const JOINED_TYPES: usize = 2 * MAX_TYPES + 1;
 
 /// `types` without `ty`.
 fn without(types: &[u32], ty: u32) -> Row<u32, JOINED_TYPES>

@@ -1,4 +1,4 @@
-//! What a record does to the histories.
+//! Putting a history in its place, and letting histories go.
 ghost use Rattle.std.specs.Prelude.{◌≡◌, ◌≤◌};
 ghost use Rattle.row.specs.Items.{row_items};
 ghost use Rattle.rules.specs.Histories.{put_types, drop_types, live_only};
@@ -8,7 +8,7 @@ ghost use Rattle.histories.specs.Many.{kept};
 
 use super::Histories;
 use crate::history::{MAX_TYPES, TypeHistory};
-use crate::lookups::place_of;
+use crate::lookups::{find, place_of};
 use model::ids::Value;
 use row::Row;
 use store::store::Store;
@@ -32,7 +32,7 @@ impl Histories {
     pub(super) fn is_kept(&self, value: Value) -> bool
         ensures { result ≡ is_kept (kept self.now) value }
     {
-        place_of(self.entries.as_slice(), value).is_some()
+        find(self.entries.as_slice(), value).is_some()
     }
 
     /// How many histories there are once `value` has one.

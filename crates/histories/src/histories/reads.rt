@@ -8,7 +8,7 @@ ghost use Rattle.histories.specs.Many.{kept};
 
 use super::Histories;
 use crate::history::{MAX_HISTORIES, TypeHistory};
-use crate::lookups::{place_of, types_had};
+use crate::lookups::{find, types_had};
 use model::ids::Value;
 use model::limits::MAX_OPERANDS;
 use row::Row;
@@ -42,11 +42,8 @@ impl Histories {
     pub fn history_of(&self, value: Value) -> TypeHistory
         ensures { history result ≡ history_of (kept self.now) value }
     {
-        let entries = self.entries.as_slice();
-        let types = match place_of(entries, value) {
-            Some(place) => entries[place].types,
-            None => Row::default(),
-        };
+        let found = find(self.entries.as_slice(), value);
+        let types = found.map_or(Row::default(), |entry| entry.types);
         TypeHistory { value, types }
     }
 

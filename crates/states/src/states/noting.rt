@@ -55,35 +55,26 @@ impl States {
     pub fn state(&self, store: &Store, op: OpId) -> OpState
         ensures { result ≡ state_of (meaning store.now) (states_in self.now) op }
     {
-        // Stays: a look-up settles whether the identity is dead, here as everywhere.
+        // Stays: a rule of the project, let-else settles a dead identity.
         let Some(_) = store.kind(op) else {
             return OpState::Erased;
         };
         self.kept(op)
     }
 
-    /// Does the slot of `op` keep its state, or should it? Of one that is dead nothing is kept where its slot keeps the state of another.
-    fn keeps(&self, store: &Store, op: OpId) -> bool
-        ensures test { result ≡ notable (meaning store.now) (states_in self.now) op }
-        ensures within { result ≡ true → op.slot < 512 }
-    {
-        let Some(entry) = self.entries.get(op.slot) else {
-            return false;
-        };
-        entry.generation == op.generation || store.is_live(IRNode::Operation(op))
-    }
-
-    /// `event` happens to `op`.
+    /// `event` happens to `op`. Of one that is dead nothing is kept where its slot keeps the state of another.
     pub fn note(&mut self, store: &Store, op: OpId, event: OpEvent)
         ensures { states_in self.new ≡ noted (meaning store.now) (states_in self.old) op event }
     {
-        if !self.keeps(store, op) {
-            return;
-        }
         let state = self.kept(op).moved(event);
-        self.entries[op.slot] = StateEntry {
-            generation: op.generation,
-            state,
+        let Some(entry) = self.entries.get_mut(op.slot) else {
+            return;
         };
+        if entry.generation == op.generation || store.is_live(IRNode::Operation(op)) {
+            *entry = StateEntry {
+                generation: op.generation,
+                state,
+            };
+        }
     }
 }
