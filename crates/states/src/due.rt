@@ -10,7 +10,7 @@ ghost use Rattle.rules.specs.Setting.{in_graph, definer_of};
 ghost use Rattle.rules_next.specs.Setting.{real};
 ghost use Rattle.rules.specs.Driver.{marks_of};
 ghost use Rattle.states.specs.States.{states_in};
-ghost use Rattle.states.specs.Due.{at, plain};
+ghost use Rattle.states.specs.Due.{asked_of, plain};
 
 use crate::states::States;
 use conversion::DialectConversion;
@@ -31,49 +31,49 @@ fn in_graph(store: &Store, op: OpId) -> bool
         .unwrap_or(false)
 }
 
-// Stays: the store and the conversion side by side; `rewrite` takes both by `&mut` between two such questions, so that a struct of the two would be made anew for each.
+/// What questions about operations are put to.
+#[derive(Clone, Copy)]
+pub struct Asked<'a, C> {
+    pub store: &'a Store,
+    pub conversion: &'a C,
+}
+
 impl States {
     /// Is `op` to be rewritten? It is asked only while it is unmarked or queued.
-    pub fn is_due<C: DialectConversion>(&self, store: &Store, conversion: &C, op: OpId) -> bool
-        ensures { result ≡ due (real C.meaning) (at (model store.now) conversion.now) (marks_of (states_in self.now)) op }
+    pub fn is_due<C: DialectConversion>(&self, asked: &Asked<C>, op: OpId) -> bool
+        ensures { result ≡ due (real C.meaning) (asked_of asked.now) (marks_of (states_in self.now)) op }
     {
-        match self.state(store, op) {
-            OpState::Unmarked | OpState::Queued => conversion.can_convert_op(store, op),
+        match self.state(asked.store, op) {
+            OpState::Unmarked | OpState::Queued => asked.conversion.can_convert_op(asked.store, op),
             _ => false,
         }
     }
 
     /// The operation that defines `value`, where it is due and does not lie directly in a graph region.
-    fn due_definer<C: DialectConversion>(
-        &self,
-        store: &Store,
-        conversion: &C,
-        value: Value,
-    ) -> Option<OpId>
-        ensures { option_to_list result ≡ keep (due (real C.meaning) (at (model store.now) conversion.now) (marks_of (states_in self.now))) (definer_of (model store.now) value.definer) }
+    fn due_definer<C: DialectConversion>(&self, asked: &Asked<C>, value: Value) -> Option<OpId>
+        ensures { option_to_list result ≡ keep (due (real C.meaning) (asked_of asked.now) (marks_of (states_in self.now))) (definer_of (model asked.now.store.now) value.definer) }
     {
         let DefiningEntity::Op(definer) = value.definer else {
             return None;
         };
-        let goes_first = self.is_due(store, conversion, definer) && !in_graph(store, definer);
+        let goes_first = self.is_due(asked, definer) && !in_graph(asked.store, definer);
         goes_first.then_some(definer)
     }
 
     /// For each operand of `op` in order, the operation that defines it, where that is due and does not lie directly in a graph region.
     pub fn due_definers<C: DialectConversion>(
         &self,
-        store: &Store,
-        conversion: &C,
+        asked: &Asked<C>,
         op: OpId,
     ) -> Row<OpId, MAX_OPERANDS>
-        ensures { row_items result ≡ dues (real C.meaning) (at (model store.now) conversion.now) (marks_of (states_in self.now)) op }
+        ensures { row_items result ≡ dues (real C.meaning) (asked_of asked.now) (marks_of (states_in self.now)) op }
     {
         let mut found = Row::default();
-        let Some(operands) = store.operands(op) else {
+        let Some(operands) = asked.store.operands(op) else {
             return found;
         };
         for operand in operands {
-            if let Some(definer) = self.due_definer(store, conversion, *operand) {
+            if let Some(definer) = self.due_definer(asked, *operand) {
                 found.push(definer);
             }
         }
@@ -81,18 +81,13 @@ impl States {
     }
 
     /// The end of the chain of first due definers that starts at `op`, where it has 512 links or more.
-    pub fn beyond<C: DialectConversion>(
-        &self,
-        store: &Store,
-        conversion: &C,
-        op: OpId,
-    ) -> Option<OpId>
-        ensures { result ≡ plain (member (first_due (real C.meaning) (at (model store.now) conversion.now) (marks_of (states_in self.now))) 512 op) }
+    pub fn beyond<C: DialectConversion>(&self, asked: &Asked<C>, op: OpId) -> Option<OpId>
+        ensures { result ≡ plain (member (first_due (real C.meaning) (asked_of asked.now) (marks_of (states_in self.now))) 512 op) }
     {
         let mut link = op;
         // Stays: no index; the chain is followed so many links.
         for _ in 0..OPERATIONS {
-            link = self.due_definers(store, conversion, link).get(0)?;
+            link = self.due_definers(asked, link).get(0)?;
         }
         Some(link)
     }

@@ -1,9 +1,9 @@
 //! Reading and moving states.
-ghost use Rattle.std.specs.Prelude.{◌≡◌, ◌<◌, true, IfOk};
+ghost use Rattle.std.specs.Prelude.{◌≡◌, IfOk};
 ghost use Rattle.store.specs.Meaning.{meaning};
 ghost use Rattle.law.specs.Machine.{is_unmarked};
 ghost use Rattle.rules.specs.Driver.{kept_state, state_of, marks_of};
-ghost use Rattle.rules_next.specs.Driver.{notable, noted};
+ghost use Rattle.rules_next.specs.Driver.{noted};
 ghost use Rattle.states.specs.States.{states_in, unmarked_all};
 
 use super::States;

@@ -12,7 +12,7 @@ use Rattle.states.proofs.states.States.beyond.Goals as goal
 
 pub returns-in_err-link : goal.returns-in_err-link
 returns-in_err-link g c =
-    let e = at (model c.args.store.now) c.args.conversion.now in
+    let e = at (model c.args.asked.now.store.now) c.args.asked.now.conversion.now in
     let ks = marks_of (states_in c.args.self.now) in
     let S = real g.C.DialectConversion.meaning in
     let none : c.from_residual.result ≡ None = search rules in
@@ -21,7 +21,7 @@ returns-in_err-link g c =
 
 pub loop-preserved : goal.loop-preserved
 loop-preserved g c =
-    let e = at (model c.args.store.now) c.args.conversion.now in
+    let e = at (model c.args.asked.now.store.now) c.args.asked.now.conversion.now in
     let ks = marks_of (states_in c.args.self.now) in
     let S = real g.C.DialectConversion.meaning in
     let first : Some c.in_ok-link.link ≡ slice_get (row_items c.due_definers.result) 0 = search rules in
@@ -29,7 +29,7 @@ loop-preserved g c =
 
 pub returns : goal.returns
 returns g c =
-    let e = at (model c.args.store.now) c.args.conversion.now in
+    let e = at (model c.args.asked.now.store.now) c.args.asked.now.conversion.now in
     let ks = marks_of (states_in c.args.self.now) in
     let S = real g.C.DialectConversion.meaning in
     sym (ap plain (link_end (first_due S e ks) 512 c.loop.counter c.loop.link _ c.loop-test.false c.loop.invariant))

@@ -11,5 +11,5 @@ use Rattle.states.proofs.states.States.beyond.Given as goal
 -- what is found from here is what is found from the start
 abbrev pub invariant-loop : goal.invariant-loop
 invariant-loop g l =
-    let next = first_due (real g.C.DialectConversion.meaning) (at (model l.store) l.conversion) (marks_of (states_in l.self)) in
+    let next = first_due (real g.C.DialectConversion.meaning) (at (model l.asked.store.now) l.asked.conversion.now) (marks_of (states_in l.self)) in
     member next (512 - l.counter) l.link ≡ member next 512 l.initial.link

@@ -13,14 +13,14 @@ use Rattle.states.proofs.states.States.due_definers.Goals.{in-Some-due_definer, 
 
 pub push-requires : goal.push-requires
 push-requires g c =
-    let few : length c.in-Some.operands.now ≤ 8 = subst (λ vs. length vs ≤ 8) (sym (operands_read (model c.args.store.now) c.args.op c.in-Some.operands.now c.in-Some.ensures)) (operands_few c.args.store.now c.args.op) in
+    let few : length c.in-Some.operands.now ≤ 8 = subst (λ vs. length vs ≤ 8) (sym (operands_read (model c.args.asked.now.store.now) c.args.op c.in-Some.operands.now c.in-Some.ensures)) (operands_few c.args.asked.now.store.now c.args.op) in
     (omega arith, omega (arith, few, c.loop-operand.invariant.1, c.loop-operand-test.true))
 
 pub loop-operand-preserved : goal.loop-operand-preserved
 loop-operand-preserved g c =
     let M = g.C.DialectConversion.meaning in
-    let m = model c.args.store.now in
-    let p = due (real M) (at m c.args.conversion.now) (marks_of (states_in c.args.self.now)) in
+    let m = model c.args.asked.now.store.now in
+    let p = due (real M) (at m c.args.asked.now.conversion.now) (marks_of (states_in c.args.self.now)) in
     let vs = c.in-Some.operands.now in
     let i = c.loop-operand.operand-index in
     let was = row_items c.loop-operand.found in

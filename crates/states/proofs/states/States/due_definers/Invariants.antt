@@ -12,5 +12,5 @@ use Rattle.states.proofs.states.States.due_definers.Given as goal
 
 abbrev pub invariant-loop-operand : goal.invariant-loop-operand
 invariant-loop-operand g l =
-    (row_items l.found ≡ keep (due (real g.C.DialectConversion.meaning) (at (model l.store) l.conversion) (marks_of (states_in l.self))) (definers_of (model l.store) (take l.operand-index l.operands)))
+    (row_items l.found ≡ keep (due (real g.C.DialectConversion.meaning) (at (model l.asked.store.now) l.asked.conversion.now) (marks_of (states_in l.self))) (definers_of (model l.asked.store.now) (take l.operand-index l.operands)))
     × (length (row_items l.found) ≤ l.operand-index)
