@@ -2,7 +2,7 @@
 use crate::reason::Reason;
 use std::alloc::Global;
 
-/// A value as a line names it: by the line of its operation and its place among the results.
+/// A value as a line names it: by the line of its operation and its place among the results, or by the order's own line and its place among the arguments of the block.
 #[derive(Clone, Copy)]
 pub struct Reference {
     pub line: usize,

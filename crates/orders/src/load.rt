@@ -11,15 +11,22 @@ use store::store::Store;
 
 /// What was read so far: the order itself, the rewriter whose insertion point is the end of its one block, and what the values of each line belong to.
 #[derive(Drop)]
-struct Loaded {
+struct Loaded<'a> {
+    heap: Global,
+    store: &'a mut Store,
     root: OpId,
     rewriter: IRRewriter<DummyListener>,
     definers: BTreeMap<usize, DefiningEntity>,
 }
 
-impl Loaded {
+impl<'a> Loaded<'a> {
     /// The order itself: an operation over one SSA region with one block, whose arguments have the line's types.
-    fn order(heap: Global, store: &mut Store, number: usize, text: &str) -> Result<Loaded, Reason> {
+    fn order(
+        heap: Global,
+        store: &'a mut Store,
+        number: usize,
+        text: &str,
+    ) -> Result<Loaded<'a>, Reason> {
         let line = read_line(heap, text)?;
         if !line.operands.is_empty() {
             return Err(Reason::OrderWithOperands);
@@ -39,6 +46,8 @@ impl Loaded {
         let mut definers = BTreeMap::new(heap);
         definers.insert(number, block.into())?;
         Ok(Loaded {
+            heap,
+            store,
             root,
             rewriter,
             definers,
@@ -57,28 +66,22 @@ impl Loaded {
     }
 
     /// Puts an operation at the end of the order's block.
-    fn append(
-        &mut self,
-        heap: Global,
-        store: &mut Store,
-        number: usize,
-        text: &str,
-    ) -> Result<(), Reason> {
-        let line = read_line(heap, text)?;
+    fn append(&mut self, number: usize, text: &str) -> Result<(), Reason> {
+        let line = read_line(self.heap, text)?;
         let operands: Vec<Value> = line
             .operands
             .iter()
             .map(|reference| self.value(reference))
-            .try_collect(heap)?;
+            .try_collect(self.heap)?;
         let op = self.rewriter.make_operation(
-            store,
+            self.store,
             line.kind,
             line.note,
             operands.as_slice(),
             line.types.as_slice(),
             &[],
         )?;
-        self.rewriter.append_operation(store, op)?;
+        self.rewriter.append_operation(self.store, op)?;
         self.definers.insert(number, op.into())?;
         Ok(())
     }
@@ -88,21 +91,18 @@ impl Loaded {
 /// Where a line is not of the form, or the store refuses it, the lines above it stay made.
 pub fn load(heap: Global, store: &mut Store, text: &str) -> Result<OpId, Fault> {
     let mut lines = (1..).zip(text.lines()).filter(|(_, line)| !is_blank(line));
-    let (number, first) = lines.next().ok_or(Fault {
+    let (line, first) = lines.next().ok_or(Fault {
         line: text.lines().count(),
         reason: Reason::Empty,
     })?;
-    let mut loaded = Loaded::order(heap, store, number, first).map_err(|reason| Fault {
-        line: number,
+    let mut loaded = Loaded::order(heap, store, line, first).map_err(|reason| Fault {
+        line,
         reason,
     })?;
-    for (number, line) in lines {
+    for (line, text) in lines {
         loaded
-            .append(heap, store, number, line)
-            .map_err(|reason| Fault {
-                line: number,
-                reason,
-            })?;
+            .append(line, text)
+            .map_err(|reason| Fault { line, reason })?;
     }
     Ok(loaded.root)
 }

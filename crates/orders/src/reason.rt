@@ -26,7 +26,7 @@ pub enum Reason {
     BadType(usize),
     /// This word is a second arrow.
     SecondArrow(usize),
-    /// This word names a line above which has no operation.
+    /// This word names a line that is not an operation above.
     NoSuchLine(usize),
     /// The first operation holds all others, so it has no operands.
     OrderWithOperands,

@@ -4,37 +4,19 @@ use calls::events::RecorderEvent;
 use model::ids::{IRNode, OpId};
 use model::points::OpInsertionPoint;
 use model::refusal::Refusal;
+use orders::call_error::CallError;
 use rewriter::{IRRewriter, Recorder};
 use std::alloc::{AllocError, Global};
 use std::io;
 use store::store::Store;
 use walkers::Nodes;
 
-/// The kinds of kits; the ply of a kit has its kind and `TO_PLY`.
+/// The kinds of kits; the ply of a kit has its kind plus `TO_PLY`.
 const FIRST_KIT: u16 = 200;
 
 const LAST_KIT: u16 = 299;
 
 const TO_PLY: u16 = 100;
-
-/// Why a kit is not replaced.
-#[derive(Drop)]
-enum EditError {
-    Memory(AllocError),
-    Refused(Refusal),
-}
-
-impl From<AllocError> for EditError {
-    fn from(error: AllocError) -> EditError {
-        EditError::Memory(error)
-    }
-}
-
-impl From<Refusal> for EditError {
-    fn from(refusal: Refusal) -> EditError {
-        EditError::Refused(refusal)
-    }
-}
 
 /// The first kit that is listed, with its kind.
 fn first_kit(listing: Listing<'_>) -> Option<(OpId, u16)> {
@@ -54,10 +36,13 @@ fn replace_kit(
     rewriter: &mut IRRewriter<Recorder>,
     kit: OpId,
     ply_kind: u16,
-) -> Result<(), EditError> {
-    let note = store.note(kit).unwrap_or(0);
-    let operands = store.operands(kit).unwrap_or(&[]).to_vec(heap)?;
-    let types = store.result_types(kit).unwrap_or(&[]).to_vec(heap)?;
+) -> Result<(), CallError> {
+    let note = store.note(kit).ok_or(Refusal::NotLive)?;
+    let operands = store.operands(kit).ok_or(Refusal::NotLive)?.to_vec(heap)?;
+    let types = store
+        .result_types(kit)
+        .ok_or(Refusal::NotLive)?
+        .to_vec(heap)?;
     rewriter.set_insertion_point(OpInsertionPoint::BeforeOperation(kit));
     let ply = rewriter.make_operation(
         store,
@@ -111,11 +96,8 @@ pub fn print_edit(
     let mut rewriter = IRRewriter::new(heap, Recorder::new(heap)?)?;
     match replace_kit(heap, store, &mut rewriter, kit, ply_kind) {
         Ok(()) => {}
-        Err(EditError::Memory(error)) => return Err(error.into()),
-        Err(EditError::Refused(refusal)) => {
-            let number = u16::from(refusal);
-            return println!(rt; "refused by {number}: {refusal}");
-        }
+        Err(CallError::Memory(error)) => return Err(error.into()),
+        Err(refused) => return println!(rt; "{refused}"),
     }
     let before = Listing::new(heap, store, nodes);
     for event in rewriter.get_listener().events() {

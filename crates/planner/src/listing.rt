@@ -1,18 +1,12 @@
 //! What a store holds, in a planner's lines.
 use model::ids::{BlockId, DefiningEntity, IRNode, OpId, Value};
+use orders::types::Types;
 use std::alloc::{AllocError, Global};
 use std::collections::BTreeMap;
 use std::fmt::Write;
 use std::io;
 use store::store::Store;
 use walkers::Nodes;
-
-fn push_types(types: &[u32], line: &mut String) -> Result<(), AllocError> {
-    for each in types {
-        write!(line, " {each}")?;
-    }
-    Ok(())
-}
 
 /// A store, and the nodes of it in the order of a walk.
 #[derive(Clone, Copy)]
@@ -68,17 +62,16 @@ impl<'a> Listing<'a> {
         for operand in self.store.operands(op).unwrap_or(&[]) {
             self.push_value(*operand, &mut line)?;
         }
-        line.push_str(" ->")?;
-        push_types(self.store.result_types(op).unwrap_or(&[]), &mut line)?;
+        let types = Types(self.store.result_types(op).unwrap_or(&[]));
+        write!(line, " ->{types}")?;
         Ok(line)
     }
 
     /// `block of NUMBER: TYPE ..`
     fn block_line(&self, block: BlockId) -> Result<String, AllocError> {
         let number = self.number_over(block).unwrap_or(0);
-        let mut line = format!(in self.heap; "block of {number}:")?;
-        push_types(self.store.argument_types(block).unwrap_or(&[]), &mut line)?;
-        Ok(line)
+        let types = Types(self.store.argument_types(block).unwrap_or(&[]));
+        format!(in self.heap; "block of {number}:{types}")
     }
 
     fn totals(&self) -> Result<BTreeMap<u16, u32>, AllocError> {

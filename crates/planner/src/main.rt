@@ -1,4 +1,4 @@
-//! Reads an order from standard input, makes it in a store, and prints what the store holds.
+//! Reads an order from standard input, makes it in a store, prints what the store holds, and makes and prints one edit of it.
 
 #![tactic(auto)]
 

@@ -1,5 +1,5 @@
 //! A store and a rewriter, with names for what was made.
-use crate::words::{number, parted, word};
+use crate::words::{number, parted};
 use model::ids::{BlockId, DefiningEntity, IRNode, OpId, RegionId, Value};
 use model::points::{BlockInsertionPoint, OpInsertionPoint};
 use rewriter::{IRRewriter, Recorder};
@@ -148,9 +148,9 @@ impl Bench {
         }
     }
 
-    /// Gives a node that was just made the name at place `at` of the line.
-    pub fn call(&mut self, line: &str, at: usize, node: IRNode) -> Result<(), AllocError> {
-        let name = String::from_str(self.heap, word(line, at).unwrap_or(""))?;
+    /// Gives a node that was just made this name.
+    pub fn call(&mut self, name: &str, node: IRNode) -> Result<(), AllocError> {
+        let name = String::from_str(self.heap, name)?;
         self.names.entry(name)?.or_default().push(node)?;
         Ok(())
     }

@@ -1,54 +1,39 @@
 //! One line: a call, and what it answers.
 use crate::bench::Bench;
-use crate::words::{number, word};
+use crate::words::number;
 use model::ids::{IRNode, Value};
 use model::refusal::Refusal;
+use orders::call_error::CallError;
 use std::alloc::AllocError;
-
-/// Why a call is not made.
-#[derive(Drop)]
-enum CallError {
-    Memory(AllocError),
-    Refused(Refusal),
-}
-
-impl From<AllocError> for CallError {
-    fn from(error: AllocError) -> CallError {
-        CallError::Memory(error)
-    }
-}
-
-impl From<Refusal> for CallError {
-    fn from(refusal: Refusal) -> CallError {
-        CallError::Refused(refusal)
-    }
-}
 
 impl Bench {
     fn make(&mut self, line: &str) -> Result<(), CallError> {
         let operands = self.values(line, 4)?;
         let types = self.types(line)?;
         let marks = self.marks(line)?;
-        let kind = word(line, 2).map_or(0, number) % 65536;
+        let mut words = line.split_whitespace().skip(1);
+        let name = words.next().unwrap_or("");
+        let kind = words.next().map_or(0, number) % 65536;
+        let note = words.next().map_or(0, number);
         let op = self.rewriter.make_operation(
             &mut self.store,
             kind as u16,
-            word(line, 3).map_or(0, number),
+            note,
             operands.as_slice(),
             types.as_slice(),
             marks.as_slice(),
         )?;
-        self.call(line, 1, op.into())?;
+        self.call(name, op.into())?;
         Ok(())
     }
 
-    fn create(&mut self, line: &str) -> Result<(), CallError> {
+    fn create(&mut self, name: &str, line: &str) -> Result<(), CallError> {
         let point = self.block_point(line, 2);
         let types = self.types(line)?;
         let block = self
             .rewriter
             .create_block(&mut self.store, point, types.as_slice())?;
-        self.call(line, 1, block.into())?;
+        self.call(name, block.into())?;
         Ok(())
     }
 
@@ -60,15 +45,17 @@ impl Bench {
         }
     }
 
-    /// Makes a call of the rewriter, and answers `ok`; a line with another word only reads.
+    /// Makes a call of the rewriter, and answers `ok`; any other word is for `read`.
     fn change(&mut self, line: &str) -> Result<String, CallError> {
-        let first = word(line, 1).unwrap_or("");
-        let second = word(line, 2).unwrap_or("");
+        let mut words = line.split_whitespace();
+        let call = words.next().unwrap_or("");
+        let first = words.next().unwrap_or("");
+        let second = words.next().unwrap_or("");
         let op = self.op(first);
         // Stays: the first word of a line names its call; one match is the plainest table of them.
-        match word(line, 0).unwrap_or("") {
+        match call {
             "make" => self.make(line)?,
-            "block" => self.create(line)?,
+            "block" => self.create(first, line)?,
             "point" => {
                 let point = self.op_point(line, 1);
                 self.rewriter.set_insertion_point(point);
@@ -101,7 +88,7 @@ impl Bench {
                     .replace_operation_with_values(&mut self.store, op, values.as_slice())?;
             }
             "erase" => self.erase(first)?,
-            question => return Ok(self.read(question, line)?),
+            question => return Ok(self.read(question, first, second)?),
         }
         Ok(String::from_str(self.heap, "ok")?)
     }
@@ -150,9 +137,8 @@ impl Bench {
         }
     }
 
-    /// What is read.
-    fn read(&mut self, question: &str, line: &str) -> Result<String, AllocError> {
-        let name = word(line, 1).unwrap_or("");
+    /// Answers a question; `fill` and `retype` make a call many times, and answer how often it was accepted.
+    fn read(&mut self, question: &str, name: &str, second: &str) -> Result<String, AllocError> {
         let op = self.op(name);
         match question {
             "walk" => {
@@ -165,7 +151,7 @@ impl Bench {
                 self.listed(answer)
             }
             "fill" => self.fill(),
-            "retype" => self.retype(self.value(name), word(line, 2).map_or(0, number)),
+            "retype" => self.retype(self.value(name), number(second)),
             "records" => self.records_text(),
             "show" => self.op_text(op),
             "typeof" => match self.store.value_type(self.value(name)) {

@@ -8,6 +8,7 @@ mod show;
 mod words;
 
 use crate::bench::Bench;
+use orders::line::is_blank;
 use std::io;
 
 fn main(rt: HostRuntime) -> io::Result<()> {
@@ -16,15 +17,13 @@ fn main(rt: HostRuntime) -> io::Result<()> {
         return println!(rt; "no text");
     };
     let mut bench = Bench::new(heap)?;
-    for line in text.as_str().lines() {
+    for line in text.as_str().lines().filter(|line| !is_blank(line)) {
         match line.split_whitespace().next() {
-            None => {}
-            Some(word) if word.starts_with("#") => {}
             Some("new") => {
                 bench = Bench::new(heap)?;
                 println!(rt; "new")?;
             }
-            Some(_) => {
+            _ => {
                 let answer = bench.run(line)?;
                 println!(rt; "{line}: {answer}")?;
             }

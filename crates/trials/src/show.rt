@@ -3,16 +3,9 @@ use crate::bench::Bench;
 use calls::events::RecorderEvent;
 use model::ids::{IRNode, OpId, Value};
 use model::points::OpInsertionPoint;
+use orders::types::Types;
 use std::alloc::AllocError;
 use std::fmt::Write;
-
-// Stays: three lines; the two programs share no crate that makes text.
-fn push_types(types: &[u32], text: &mut String) -> Result<(), AllocError> {
-    for each in types {
-        write!(text, " {each}")?;
-    }
-    Ok(())
-}
 
 impl Bench {
     /// A node by its name; a region by its owner's.
@@ -110,8 +103,8 @@ impl Bench {
         for operand in self.store.operands(op).unwrap_or(&[]) {
             write!(text, " {}", self.value_text(*operand)?)?;
         }
-        text.push_str(" ->")?;
-        push_types(self.store.result_types(op).unwrap_or(&[]), &mut text)?;
+        let types = Types(self.store.result_types(op).unwrap_or(&[]));
+        write!(text, " ->{types}")?;
         Ok(text)
     }
 
@@ -130,7 +123,8 @@ impl Bench {
                 if let Some(next) = self.store.get_next_block(block) {
                     text.push_str(self.name_of(next))?;
                 }
-                push_types(self.store.argument_types(block).unwrap_or(&[]), text)?;
+                let types = Types(self.store.argument_types(block).unwrap_or(&[]));
+                write!(text, "{types}")?;
             }
             IRNode::Region(_) => {}
         }
@@ -140,7 +134,11 @@ impl Bench {
     /// All that the store, the insertion point and the records hold of what has a name: to see that a refused call left it.
     pub fn snapshot(&self) -> Result<String, AllocError> {
         let mut text = self.records_text()?;
-        write!(text, "{}", self.point_text(self.rewriter.get_insertion_point())?)?;
+        write!(
+            text,
+            "{}",
+            self.point_text(self.rewriter.get_insertion_point())?
+        )?;
         for node in self.names.values().flatten() {
             text.push_str(";")?;
             self.push_node(*node, &mut text)?;

@@ -1,9 +1,4 @@
-//! The words of a line.
-
-/// The word at place `at`, the first being 0.
-pub fn word(line: &str, at: usize) -> Option<&str> {
-    line.split_whitespace().nth(at)
-}
+//! What a word of a line says.
 
 /// A number, 0 where the word is none.
 // Stays: a line that lacks a number is read as 0, which its call then answers for.
