@@ -6,6 +6,7 @@ ghost use Rattle.rules.specs.Histories.{add_type, add_types};
 
 use crate::history::MAX_TYPES;
 use row::Row;
+use std::convert::TryFrom;
 
 /// So many types there may be before the limit is tested: what the one value had, what the other had, and one more.
 pub const JOINED_TYPES: usize = 2 * MAX_TYPES + 1;
@@ -15,12 +16,8 @@ fn without(types: &[u32], ty: u32) -> Row<u32, JOINED_TYPES>
     requires { length types.now ≤ 33 }
     ensures { row_items result ≡ less (nat_eq ty) types.now }
 {
-    let mut others = Row::default();
-    for other in types {
-        if ty != *other {
-            others.push(*other);
-        }
-    }
+    let mut others = Row::try_from(types).unwrap();
+    others.retain(|other| *other != ty);
     others
 }
 
