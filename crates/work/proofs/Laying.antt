@@ -5,7 +5,7 @@ use Rattle.std.proofs.lemmas.List.{append-nil, length-append}
 use Rattle.model.specs.declared.ids.OpId.{OpId}
 use Rattle.model.specs.Model.{Model}
 use Rattle.queue.specs.declared.queue.Queue.{Queue}
-use Rattle.queue.specs.Contents.{contents}
+use Rattle.queue.specs.Contents.{contents, Within}
 use Rattle.rules.specs.declared.interface.OpEvent.TheVariants as happens
 use Rattle.rules_next.specs.Driver.{noted}
 use Rattle.rules_next.specs.Rules.{noted_all}
@@ -26,6 +26,7 @@ sure (Err e) h = absurd (both_ways false refl h)
 pub record Laying (m : Model) (os : List OpId) (k₀ : Work) (xs₀ : List OpId) (k : Work) (xs : List OpId) (rest : List OpId) : Type 0 where
   pub laid : List OpId
   pub whole : os ≡ rest ++ laid
+  pub within : Within k.worklist xs
   pub size : length xs ≡ length xs₀
   pub count : k.worklist.count ≡ k₀.worklist.count + length laid
   pub pending : k.pending ≡ k₀.pending
@@ -34,10 +35,11 @@ pub record Laying (m : Model) (os : List OpId) (k₀ : Work) (xs₀ : List OpId)
   pub states : states_in k.states ≡ noted_all m (states_in k₀.states) laid happens.Queued
 
 module _ (m : Model) (os : List OpId) (k₀ : Work) (xs₀ : List OpId) where
-  pub lay_starts : (rest : List OpId) → rest ≡ os → Laying m os k₀ xs₀ k₀ xs₀ rest
-  lay_starts rest e = record {
+  pub lay_starts : Within k₀.worklist xs₀ → (rest : List OpId) → rest ≡ os → Laying m os k₀ xs₀ k₀ xs₀ rest
+  lay_starts w rest e = record {
     laid = [];
     whole = sym (append-nil rest ∙ e);
+    within = w;
     size = refl;
     count = omega arith;
     pending = refl;
@@ -53,11 +55,12 @@ module _ (m : Model) (os : List OpId) (k₀ : Work) (xs₀ : List OpId) where
         let a = ap length l.whole ∙ length-append rest l.laid in
         lt-ltb k.worklist.count (length xs) (omega (arith, n, a, l.count, l.size, h, w))
 
-    pub lay_again : (p : Queue) (s : States) → length xs' ≡ length xs → p.count ≡ k.worklist.count + 1 → contents p xs' ≡ o ∷ contents k.worklist xs → states_in s ≡ noted m (states_in k.states) o happens.Queued
+    pub lay_again : (p : Queue) (s : States) → Within p xs' → length xs' ≡ length xs → p.count ≡ k.worklist.count + 1 → contents p xs' ≡ o ∷ contents k.worklist xs → states_in s ≡ noted m (states_in k.states) o happens.Queued
         → Laying m os k₀ xs₀ (record { states = s; worklist = p; pending = k.pending; next_argument = k.next_argument }) xs' more
-    lay_again p s size count items noting = record {
+    lay_again p s w size count items noting = record {
       laid = o ∷ l.laid;
       whole = l.whole ∙ ap (λ zs. zs ++ l.laid) one ∙ append_assoc more (o ∷ []) l.laid;
+      within = w;
       size = size ∙ l.size;
       count = omega (arith, l.count, count);
       pending = l.pending;

@@ -2,7 +2,6 @@
 use Rattle.std.specs.Prelude.{◌≡◌, ℕ, List, Option, Result}
 use Rattle.model.specs.declared.ids.OpId.{OpId}
 use Rattle.calls.specs.declared.events.RecorderEvent.{RecorderEvent}
-use Rattle.queue.specs.Contents.{contents}
 use Rattle.rules_next.specs.declared.interface.Fault.{Fault}
 use Rattle.rules_next.specs.Meaning.{Meaning}
 use Rattle.rules.specs.Histories.{History}
@@ -19,10 +18,6 @@ pub record Same (s s' : Lent) : Type 0 where
   pub entries : s'.entries.ghost_name ≡ s.entries.ghost_name
   pub blocks : s'.blocks.ghost_name ≡ s.blocks.ghost_name
   pub queued : s'.queued.ghost_name ≡ s.queued.ghost_name
-
--- the worklist, and the blocks that are pending
-abbrev pub worklist_of : Lent → List OpId
-worklist_of s = contents s.work.now.worklist s.entries.now
 
 abbrev pub pending_of : Lent → List Pending
 pending_of s = pending_in s.work.now s.blocks.now

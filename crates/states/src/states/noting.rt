@@ -13,17 +13,12 @@ use rules_next::interface::{OpEvent, OpState, StateEntry};
 use std::alloc::{AllocError, Global};
 use store::store::Store;
 
-const FRESH: StateEntry = StateEntry {
-    generation: 0,
-    state: OpState::Unmarked,
-};
-
 impl States {
     /// Every operation is unmarked. All memory is taken here.
     pub fn new(heap: Global) -> Result<States, AllocError>
         ensures { IfOk result (λ s. states_in s ≡ unmarked_all) }
     {
-        let entries = vec![in heap; FRESH; OPERATIONS]?;
+        let entries = vec![in heap; StateEntry::default(); OPERATIONS]?;
         Ok(States { entries })
     }
 
@@ -31,7 +26,7 @@ impl States {
     pub fn clear(&mut self)
         ensures { states_in self.new ≡ unmarked_all }
     {
-        self.entries.fill(FRESH);
+        self.entries.fill(StateEntry::default());
     }
 
     /// The state that is kept of `op`, whether it is live or not.
@@ -48,7 +43,7 @@ impl States {
     pub fn is_unmarked(&self, op: OpId) -> bool
         ensures { result ≡ is_unmarked (marks_of (states_in self.now) op) }
     {
-        matches!(self.kept(op), OpState::Unmarked)
+        self.kept(op) == OpState::Unmarked
     }
 
     /// The state of `op`: one that is not live is erased.

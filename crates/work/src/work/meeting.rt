@@ -32,7 +32,7 @@ impl<C: DialectConversion> Setting<'_, C> {
     fn is_new(&self, states: &States, op: OpId) -> bool
         ensures { result ≡ newly (real C.meaning) (env_of self.now) (marks_of (states_in states.now)) op }
     {
-        matches!(states.state(self.store, op), OpState::Unmarked)
+        states.state(self.store, op) == OpState::Unmarked
             && self.conversion.can_convert_op(self.store, op)
     }
 }

@@ -1,5 +1,6 @@
 //! An operation that waits for what defines its operands.
 ghost use Rattle.std.specs.Prelude.{◌≡◌, ◌≤◌, not, ◌&&◌, ◌++◌, length, is_ok, if◌then◌else◌, nat_le, IsOkUnless};
+ghost use Rattle.queue.specs.Contents.{contents, Within};
 ghost use Rattle.store.specs.Meaning.{meaning as model};
 ghost use Rattle.rules.specs.declared.interface.OpEvent.TheVariants.{Queued};
 ghost use Rattle.rules_next.specs.declared.interface.Fault.TheVariants.{Full};
@@ -7,10 +8,9 @@ ghost use Rattle.law.specs.Machine.{is_unmarked};
 ghost use Rattle.rules.specs.Driver.{marks_of};
 ghost use Rattle.rules_next.specs.Rules.{noted_all};
 ghost use Rattle.states.specs.States.{states_in};
-ghost use Rattle.work.specs.Lent.{Same, worklist_of};
 ghost use Rattle.work.specs.Waiting.{among, fresh_ops};
 
-use super::lent::Lent;
+use super::Work;
 use model::ids::OpId;
 use rules_next::interface::{Fault, OpEvent};
 use states::States;
@@ -38,26 +38,30 @@ pub fn count_fresh(states: &States, ops: &[OpId]) -> usize
     count
 }
 
-impl Lent<'_> {
+impl Work {
     /// Lays `ops` before the worklist, the first foremost, and all of them become queued. Where there is no room for all, nothing is laid.
-    pub fn lay_front(&mut self, store: &Store, ops: &[OpId]) -> Result<(), Fault>
-        ensures same { Same self.old self.new }
-        ensures size { length self.new.entries.now ≡ length self.old.entries.now }
-        ensures blocks { self.new.blocks.now ≡ self.old.blocks.now }
-        ensures queued { self.new.queued.now ≡ self.old.queued.now }
-        ensures pending { self.new.work.now.pending ≡ self.old.work.now.pending }
-        ensures argument { self.new.work.now.next_argument ≡ self.old.work.now.next_argument }
-        ensures test { is_ok result ≡ nat_le (length (ops.now ++ worklist_of self.old)) (length self.old.entries.now) }
+    pub fn lay_front(
+        &mut self,
+        entries: &mut [OpId],
+        store: &Store,
+        ops: &[OpId],
+    ) -> Result<(), Fault>
+        requires { Within self.old.worklist entries.old }
+        ensures within { Within self.new.worklist entries.new }
+        ensures size { length entries.new ≡ length entries.old }
+        ensures pending { self.new.pending ≡ self.old.pending }
+        ensures argument { self.new.next_argument ≡ self.old.next_argument }
+        ensures test { is_ok result ≡ nat_le (length (ops.now ++ contents self.old.worklist entries.old)) (length entries.old) }
         ensures fault { IsOkUnless result Full }
-        ensures worklist { worklist_of self.new ≡ (if is_ok result then ops.now ++ worklist_of self.old else worklist_of self.old) }
-        ensures states { states_in self.new.work.now.states ≡ (if is_ok result then noted_all (model store.now) (states_in self.old.work.now.states) ops.now Queued else states_in self.old.work.now.states) }
+        ensures worklist { contents self.new.worklist entries.new ≡ (if is_ok result then ops.now ++ contents self.old.worklist entries.old else contents self.old.worklist entries.old) }
+        ensures states { states_in self.new.states ≡ (if is_ok result then noted_all (model store.now) (states_in self.old.states) ops.now Queued else states_in self.old.states) }
     {
-        if ops.len() > self.entries.len() - self.work.worklist.len() {
+        if ops.len() > entries.len() - self.worklist.len() {
             return Err(Fault::Full);
         }
         for op in ops.iter().rev() {
-            self.work.worklist.push_front(self.entries, *op).unwrap();
-            self.work.states.note(store, *op, OpEvent::Queued);
+            self.worklist.push_front(entries, *op).unwrap();
+            self.states.note(store, *op, OpEvent::Queued);
         }
         Ok(())
     }
