@@ -97,7 +97,7 @@ PATTERNS = {
     3: [
         ('a loop over indices', r'for \w+ in [\w.+ ]+\.\.'),
         ('a count down', r'while \w+ > 0'),
-        ('a counter by hand', r'\w+ \+= 1;|-= 1;|= \w+\.saturating_add\(1\)'),
+        ('a counter by hand', r'let mut (\w+)(?:: \w+)? = (?:0|\S+\.len\(\));(?=(?:(?!\n\}|\n    \}).|\n)*?\b\1(?: [+-]= 1;| = \1\.saturating_add\(1\)))'),
         ('a search loop', r'for [^\n]* in [^\n]*\{\n( *)if [^\n]*\{\n *return [^\n]*;\n\1\}\n'),
     ],
     4: [
@@ -130,7 +130,7 @@ for name, text in sources():
         if re.search(r'-> bool$', head.strip()) and '&mut' in head:
             found[1].append(('a bool for done or refused', name, line))
         key, size = shape(body)
-        if size >= 7:
+        if size >= 7 and fn != 'from':
             fns.append((key, name, line, fn))
         for clause in set(clauses):
             if len(clause) > 30:

@@ -12,6 +12,7 @@ pub const MAX_RECORDS: usize = 1024;
 pub enum RecorderEvent {
     InsertedOperation(OpId),
     InsertedBlock(BlockId),
+    // Stays: one variant for each kind of node, as pliron names them.
     ErasedOperation(OpId),
     ErasedBlock(BlockId),
     ErasedRegion(RegionId),

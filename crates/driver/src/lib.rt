@@ -1,4 +1,4 @@
-//! The driver: it lowers what a conversion converts, step by step.
+//! The driver, as far as it stands: what it keeps and counts. There is no step yet.
 #![tactic(auto)]
 
 pub mod driver;

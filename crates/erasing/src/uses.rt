@@ -16,6 +16,7 @@ fn has_op(nodes: &[IRNode], slot: usize) -> bool
     nodes.iter().any(|node| matches!(*node, IRNode::Operation(op) if op.slot == slot))
 }
 
+// Stays: beside `has_op`, since the definitions ask by slot here and by definer there.
 /// Is `definer` one of `nodes`, by its slot?
 fn has_definer(nodes: &[IRNode], definer: DefiningEntity) -> bool
     ensures { result ≡ defines nodes.now definer }
@@ -30,6 +31,7 @@ fn has_definer(nodes: &[IRNode], definer: DefiningEntity) -> bool
 /// Each of `olds`, in order, gives way to the one of `news` in the same place.
 #[derive(Clone, Copy)]
 struct Exchange<'a> {
+    // Stays: two lists, one the operation's own row and the other the caller's; pairs would need memory for a third.
     olds: &'a [Value],
     news: &'a [Value],
 }

@@ -9,7 +9,7 @@ mod records;
 
 #[derive(Drop)]
 pub struct Histories {
-    // Stays: searched, and no map, since after `new` nothing allocates; no `Bounded`, as only here elements are replaced in place and dropped by a test.
+    // Stays: searched, and no map, since after `new` nothing allocates; no `Bounded`, since elements are also replaced in place and dropped by a test.
     entries: Vec<TypeHistory>,
     ghost within: { length entries.items ≤ 1024 },
     ghost reserved: { 1024 ≤ vec_capacity entries },

@@ -6,6 +6,7 @@ use crate::links::{Ends, Gap, Links};
 
 #[derive(Drop)]
 pub struct Raw {
+    // Stays: arenas by slot, taken when they are made; nothing allocates afterwards.
     pub links: Vec<Links>,
     pub ends: Vec<Ends>,
 }

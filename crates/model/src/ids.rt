@@ -57,7 +57,7 @@ pub enum IRNode {
 /// What a region keeps besides its blocks.
 #[derive(Clone, Copy, Debug, PartialEq, Eq)]
 pub struct Region {
-    // Stays: a mark of two values, as the definitions have it; its name says what `true` is.
+    // Stays: a bool, as the definitions of what is made and opened have it; an enum of two would be turned into it in each contract.
     pub graph: bool,
     pub owner: OpId,
 }

@@ -1,4 +1,4 @@
-//! Identities, values and refusals; what a store means, and the laws of it, are in specs/ and proofs/.
+//! Identities, values, points, limits and refusals; what a store means, and the laws of it, are in specs/ and proofs/.
 
 #![tactic(auto)]
 

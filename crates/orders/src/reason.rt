@@ -32,6 +32,7 @@ pub enum Reason {
     OrderWithOperands,
     /// There is no operation at all.
     Empty,
+    // Stays: beside `CallError`, which has no line to name; a reason is told with its line.
     /// The store refused.
     Refused(Refusal),
 }

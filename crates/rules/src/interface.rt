@@ -134,7 +134,7 @@ pub struct Failure {
 }
 
 impl Fault {
-    // Stays: one match, since two cases carry what they tell and so have no number of their own.
+    // Stays: one match, since two cases carry a value, and an enum with such cases has no discriminants to cast.
     /// The number that the rules give it.
     pub fn number(self) -> u16
         ensures { result ≡ number_of self }

@@ -42,6 +42,7 @@ pub enum Fault {
     Conversion(ConversionFault),
 }
 
+// Stays: beside the `Failure` of crate rules, since each edition has a `Fault` of its own.
 /// A fault, and the operation or block that was in hand.
 #[derive(Clone, Copy, Debug, PartialEq, Eq)]
 pub struct Failure {
@@ -57,7 +58,7 @@ pub struct Report {
 }
 
 impl Fault {
-    // Stays: one match, since a case carries the conversion's fault and so has no number of its own.
+    // Stays: one match, since a case carries a value, and an enum with such a case has no discriminants to cast.
     /// The number that the rules give it.
     pub fn number(self) -> u16
         ensures { result ≡ number_of self }

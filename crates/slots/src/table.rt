@@ -111,7 +111,7 @@ impl<T: Copy> Table<T> {
         self.slots.get(slot).is_some_and(Slot::is_free)
     }
 
-    // Stays: two questions of a slot, each one line.
+    // Stays: in each pair of free and live, of questions, generations and counts, the two are one line and ask for another variant.
     /// Does something live in `slot`?
     pub fn occupied(&self, slot: usize) -> bool
         ensures { result ≡ is_live (cell_at (cells self.now) slot) }
@@ -165,6 +165,7 @@ impl<T: Copy> Table<T> {
         requires { F.IsAlwaysCallable f }
         ensures { ChangedBy (λ x y. FnOnceReturnsAtMut F.FnOnce f x tt y) slot (cells self.old) (cells self.new) }
     {
+        // Stays: by a test and the place; through `get_mut` what the table holds afterwards stayed open.
         if slot < self.slots.len() {
             self.slots[slot].change(f);
         }

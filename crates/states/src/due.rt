@@ -34,6 +34,7 @@ fn in_graph(store: &Store, op: OpId) -> bool
 /// What questions about operations are put to.
 #[derive(Clone, Copy)]
 pub struct Asked<'a, C> {
+    // Stays: without the operation in hand, which only work's `Setting` has.
     pub store: &'a Store,
     pub conversion: &'a C,
 }

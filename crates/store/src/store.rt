@@ -6,7 +6,7 @@ use tables::tables::Tables;
 
 #[derive(Drop)]
 pub struct Store {
-    // Stays: `Later` is said by each change, since it speaks of the store before and after, and no field can.
+    // Stays: the calls that make, put and change say `Later` each, since it speaks of the store before and after, and no field can.
     tables: Tables,
     ghost good: { ∥ Good tables ∥₁ },
 }

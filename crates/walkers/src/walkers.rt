@@ -33,6 +33,7 @@ pub fn walk_region(tables: &Tables, region: usize, nodes: &mut Nodes)
     requires room { Room nodes.old (region_by (view tables.now) (walk (view tables.now)) region) }
     ensures { nodes_in nodes.new ≡ nodes_in nodes.old ++ region_by (view tables.now) (walk (view tables.now)) region }
 {
+    // Stays: a cursor, here and in the loops like it; `successors` would take a closure that asks the same table, and is no shorter.
     let mut cursor = tables.block_lists.get_head(region);
     while let Some(block) = cursor {
         walk_block(tables, block, nodes);

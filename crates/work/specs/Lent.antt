@@ -19,6 +19,7 @@ pub record Same (s s' : Lent) : Type 0 where
   pub blocks : s'.blocks.ghost_name ≡ s.blocks.ghost_name
   pub queued : s'.queued.ghost_name ≡ s.queued.ghost_name
 
+-- the blocks that are pending
 abbrev pub pending_of : Lent → List Pending
 pending_of s = pending_in s.work.now s.blocks.now
 

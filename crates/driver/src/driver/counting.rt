@@ -10,7 +10,7 @@ use super::Driver;
 use model::ids::{IRNode, OpId};
 use rules_next::interface::{Counts, Failure, Fate, Fault, Phase, TrailRecord};
 
-// Stays: a function, for `Counts` is of another crate, and no method can be added to it here.
+// Stays: a function here; as a public method of `Counts`, which the rules own, it would ask its callers for the bound.
 /// `counts` with one more entry that met this fate.
 fn add_fate(counts: Counts, fate: Fate) -> Counts
     requires { total counts < 2048 * (2 ^ 40 + 1) }
@@ -37,6 +37,7 @@ fn add_fate(counts: Counts, fate: Fate) -> Counts
 }
 
 impl Driver {
+    // Stays: how far `queued` may have grown is a fact of the step that ends here, and of no value that could carry it.
     /// One step more, which took an entry; `queued` operations have ever been queued now.
     fn take_entry(&mut self, queued: u64)
         requires steps { self.old.steps < 2 ^ 40 }

@@ -52,6 +52,7 @@ impl Histories {
         ensures { kept self.new ≡ put_types (kept self.old) value (row_items types) }
     {
         let entry = TypeHistory { value, types };
+        // Stays: the place, since it is written there.
         match place_of(self.entries.as_slice(), value) {
             Some(place) => self.entries[place] = entry,
             None => self.entries.push_reserved(entry),

@@ -72,6 +72,7 @@ impl LinkedLists {
         self.raw.link(node, gap);
     }
 
+    // Stays: front and back, before and behind are mirrors; each pair sets the other end of the gap.
     /// Links `node` as the last of `container`.
     pub fn insert_at_back(&mut self, node: usize, container: usize)
         requires node { node < nodes self.old }

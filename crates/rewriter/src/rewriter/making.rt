@@ -55,7 +55,7 @@ impl<L: RewriteListener> IRRewriter<L> {
     }
 
     /// Makes an operation in no block, with an empty region for each mark of `regions` (`true`: a graph region). No record is made.
-    // Stays: what an operation is made of, in the order in which making it names them everywhere.
+    // Stays: five arguments, as making takes them at each level below; a struct of borrowed lists would be built for one call and taken apart in it.
     pub fn make_operation(
         &mut self,
         store: &mut Store,

@@ -1,4 +1,4 @@
-//! Making blocks, and putting operations into them.
+//! Making blocks, putting operations into them, and taking them out.
 ghost use Rattle.std.specs.Prelude.{◌≡◌, ℕ, ◌+◌, ◌<◌, ◌≤◌, Some, None, MatchResult};
 ghost use Rattle.model.specs.Calls.{unlink_refusal, unlink_at};
 ghost use Rattle.model.specs.Points.{create_refusal, Created, insert_refusal, inserted_at};

@@ -52,7 +52,8 @@ impl Store {
         Ok(())
     }
 
-    /// Where `op` is: at its block's start, else at its end, else behind the operation before it.
+    // Stays: a point and no Option, as the record of an unlinking and the definition have it; `Unset` where `op` lies in no block.
+    /// Where `op` is: at its block's start, else at its end, else behind the operation before it; `Unset` where it lies in no block.
     pub fn old_place(&self, op: OpId) -> OpInsertionPoint
         ensures { result ≡ old_place (meaning self.now) op }
     {

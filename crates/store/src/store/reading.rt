@@ -35,7 +35,7 @@ impl Store {
         self.tables.operation(op).map(|operation| operation.kind)
     }
 
-    // Stays: each reader below is one line, and reads another field.
+    // Stays: readers of one line, each of another field.
     /// The note of an operation.
     pub fn note(&self, op: OpId) -> Option<u32>
         ensures { result ≡ option_map (λ x. x.note) (find_op (meaning self.now) op) }

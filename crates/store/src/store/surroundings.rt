@@ -17,6 +17,7 @@ impl Store {
             .map(|basic_block| basic_block.arguments.as_slice())
     }
 
+    // Stays: of one shape with the others here and in reading, but table, links and identity differ in each.
     /// The region that a block lies in.
     pub fn get_parent_region(&self, block: BlockId) -> Option<RegionId>
         ensures { result ≡ parent_region_of (meaning self.now) block }

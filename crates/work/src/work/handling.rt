@@ -56,6 +56,7 @@ fn inserted_node(events: &[RecorderEvent], event: RecorderEvent) -> Option<IRNod
 }
 
 impl Lent<'_> {
+    // Stays: the room that a call asks of `queued` shrinks by what it meets, so no field of `Lent` can hold it.
     /// What `event`, one of `events`, says was inserted is met.
     fn meet_event<C: DialectConversion>(
         &mut self,
