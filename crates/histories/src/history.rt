@@ -25,8 +25,12 @@ pub struct TypeHistory {
 pub struct HistoryFull;
 
 impl fmt::Display for HistoryFull {
+    ghost use Rattle.std.specs.Prelude.{Some, codes};
+
+    ghost output = { λ _. Some (codes "a history is too long, or there are too many") };
+
     fn fmt<W: fmt::Write>(&self, f: &mut fmt::Formatter<W>) -> fmt::Result {
-        write!(f, "a history is too long, or there are too many")
+        f.write_str("a history is too long, or there are too many")
     }
 }
 

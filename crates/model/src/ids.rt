@@ -3,20 +3,20 @@ ghost use Rattle.std.specs.Prelude.{◌≡◌};
 ghost use Rattle.model.specs.declared.ids.DefiningEntity.TheVariants.{Op, Block};
 ghost use Rattle.model.specs.declared.ids.IRNode.TheVariants.{Operation, BasicBlock, Region};
 
-#[derive(Clone, Copy, Debug, Default, PartialEq, Eq)]
+#[derive(Clone, Copy, Debug, Default, PartialEq, Eq, PartialOrd, Ord)]
 pub struct OpId {
     pub slot: usize,
     pub generation: u32,
 }
 
 // Stays: three identities of two fields; one generic type would need a marker for each kind and a phantom field.
-#[derive(Clone, Copy, Debug, Default, PartialEq, Eq)]
+#[derive(Clone, Copy, Debug, Default, PartialEq, Eq, PartialOrd, Ord)]
 pub struct BlockId {
     pub slot: usize,
     pub generation: u32,
 }
 
-#[derive(Clone, Copy, Debug, Default, PartialEq, Eq)]
+#[derive(Clone, Copy, Debug, Default, PartialEq, Eq, PartialOrd, Ord)]
 pub struct RegionId {
     pub slot: usize,
     pub generation: u32,
@@ -47,7 +47,7 @@ pub struct Value {
 }
 
 /// A part of a store, as a walk meets it.
-#[derive(Clone, Copy, Debug, PartialEq, Eq)]
+#[derive(Clone, Copy, Debug, PartialEq, Eq, PartialOrd, Ord)]
 pub enum IRNode {
     Operation(OpId),
     BasicBlock(BlockId),

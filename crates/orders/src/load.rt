@@ -90,11 +90,21 @@ impl<'a> Loaded<'a> {
 /// Makes the order that `text` tells in `store`, and answers the operation that holds it.
 /// Where a line is not of the form, or the store refuses it, the lines above it stay made.
 pub fn load(heap: Global, store: &mut Store, text: &str) -> Result<OpId, Fault> {
-    let mut lines = (1..).zip(text.lines()).filter(|(_, line)| !is_blank(line));
-    let (line, first) = lines.next().ok_or(Fault {
-        line: text.lines().count(),
-        reason: Reason::Empty,
-    })?;
+    // Stays: counted while the lines are read, so that the text is gone through once.
+    let mut last: usize = 0;
+    let mut lines = text
+        .lines()
+        .map(|line| {
+            last = last.saturating_add(1);
+            (last, line)
+        })
+        .filter(|(_, line)| !is_blank(line));
+    let Some((line, first)) = lines.next() else {
+        return Err(Fault {
+            line: last,
+            reason: Reason::Empty,
+        });
+    };
     let mut loaded = Loaded::order(heap, store, line, first).map_err(|reason| Fault {
         line,
         reason,

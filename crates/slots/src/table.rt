@@ -57,14 +57,14 @@ impl<T: Copy> Slot<T> {
         }
     }
 
-    /// The slot when what lived in it has gone.
-    fn released(self) -> Slot<T>
-        ensures { cell_of result ≡ retired (cell_of self) }
+    /// What lives here goes. It is not read, so that a large record is not copied.
+    fn release(&mut self)
+        ensures { cell_of self.new ≡ retired (cell_of self.old) }
     {
-        match self {
-            Slot::Live(own, _) if own < u32::MAX => Slot::Free(own + 1),
-            Slot::Live(..) => Slot::Spent,
-            other => other,
+        match *self {
+            Slot::Live(own, _) if own < u32::MAX => *self = Slot::Free(own + 1),
+            Slot::Live(..) => *self = Slot::Spent,
+            _ => {}
         }
     }
 }
@@ -150,14 +150,20 @@ impl<T: Copy> Table<T> {
     pub fn free_count(&self) -> usize
         ensures { result ≡ frees (cells self.now) }
     {
-        self.slots.iter().filter(|slot| slot.is_free()).count()
+        self.slots
+            .iter()
+            .map(|slot| usize::from(slot.is_free()))
+            .sum()
     }
 
     /// In how many slots something lives.
     pub fn live_count(&self) -> usize
         ensures { result ≡ live_count (cells self.now) }
     {
-        self.slots.iter().filter(|slot| slot.is_live()).count()
+        self.slots
+            .iter()
+            .map(|slot| usize::from(slot.is_live()))
+            .sum()
     }
 
     /// Changes what lives in `slot` in its place; nothing where nothing does.
@@ -187,7 +193,7 @@ impl<T: Copy> Table<T> {
         ensures { cells self.new ≡ slice_set (cells self.old) slot (retired (cell_at (cells self.old) slot)) }
     {
         if slot < self.slots.len() {
-            self.slots[slot] = self.slots[slot].released();
+            self.slots[slot].release();
         }
     }
 }

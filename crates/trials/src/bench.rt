@@ -14,8 +14,10 @@ pub struct Bench {
     pub store: Store,
     pub rewriter: IRRewriter<Recorder>,
     pub nodes: Nodes,
-    /// What was given each name, the last being what the name stands for.
-    pub names: BTreeMap<String, Vec<IRNode>>,
+    /// The last thing of each name.
+    named: BTreeMap<String, IRNode>,
+    /// The name of each thing.
+    pub names: BTreeMap<IRNode, String>,
 }
 
 /// The slot of what was never made.
@@ -34,13 +36,14 @@ impl Bench {
             store: Store::new(heap)?,
             rewriter: IRRewriter::new(heap, Recorder::new(heap)?)?,
             nodes: Nodes::new(heap)?,
+            named: BTreeMap::new(heap),
             names: BTreeMap::new(heap),
         })
     }
 
     /// The last thing of this name.
     fn named(&self, name: &str) -> Option<IRNode> {
-        self.names.get(name)?.last().copied()
+        self.named.get(name).copied()
     }
 
     /// What a word names; `x/1` is the region 1 of the operation x.
@@ -150,17 +153,15 @@ impl Bench {
 
     /// Gives a node that was just made this name.
     pub fn call(&mut self, name: &str, node: IRNode) -> Result<(), AllocError> {
-        let name = String::from_str(self.heap, name)?;
-        self.names.entry(name)?.or_default().push(node)?;
+        self.named.insert(String::from_str(self.heap, name)?, node)?;
+        self.names.insert(node, String::from_str(self.heap, name)?)?;
         Ok(())
     }
 
     /// The name of a node, `?` where it has none.
     pub fn name_of<N: Into<IRNode>>(&self, node: N) -> &str {
-        let node = node.into();
         self.names
-            .iter()
-            .find(|(_, nodes)| nodes.contains(&node))
-            .map_or("?", |(name, _)| name.as_str())
+            .get(&node.into())
+            .map_or("?", |name| name.as_str())
     }
 }

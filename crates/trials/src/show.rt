@@ -139,7 +139,7 @@ impl Bench {
             "{}",
             self.point_text(self.rewriter.get_insertion_point())?
         )?;
-        for node in self.names.values().flatten() {
+        for node in self.names.keys() {
             text.push_str(";")?;
             self.push_node(*node, &mut text)?;
         }

@@ -1,6 +1,8 @@
 //! The nodes of a part of a store, in the order in which they are erased: what lies in a node before the node itself, and the last before the first.
-ghost use Rattle.std.specs.Prelude.{◌≡◌, ◌++◌};
+ghost use Rattle.std.specs.Prelude.{◌≡◌, ◌++◌, reverse};
+ghost use Rattle.std.specs.List.{flat_map};
 ghost use Rattle.model.specs.Sound.{Sound};
+ghost use Rattle.model.specs.Walk.{slots_of_regions};
 ghost use Rattle.model.specs.Erasing.{body_nodes, block_nodes, edge_nodes, region_nodes, op_nodes, part_of};
 ghost use Rattle.tables.specs.View.{view};
 ghost use Rattle.walkers.specs.Listed.{nodes_in, Room};
@@ -9,7 +11,7 @@ use crate::nodes::Nodes;
 use model::ids::IRNode;
 use tables::tables::Tables;
 
-// Stays: as the walks, these go over the plain tables, and three of them call one another; so each asks for `Sound` of them, and no type carries it.
+// Stays: as the walks, these go over the plain tables, and four of them call one another; so each asks for `Sound` of them, and no type carries it.
 /// Lists what lies in the operation in the slot `op`, then the operation.
 #[cycle(listing)]
 pub fn list_op(tables: &Tables, op: usize, nodes: &mut Nodes)
@@ -17,12 +19,23 @@ pub fn list_op(tables: &Tables, op: usize, nodes: &mut Nodes)
     requires room { Room nodes.old (op_nodes (view tables.now) op) }
     ensures { nodes_in nodes.new ≡ nodes_in nodes.old ++ op_nodes (view tables.now) op }
 {
+    list_regions(tables, op, nodes);
+    nodes.push(IRNode::Operation(tables.op_id(op)));
+}
+
+// Stays: a function of its own; inside `list_op` it makes that the one that calls itself, and each operation then costs a call.
+/// Lists the regions of the operation in the slot `op`, the last first.
+#[cycle(listing)]
+fn list_regions(tables: &Tables, op: usize, nodes: &mut Nodes)
+    requires sound { Sound (view tables.now) }
+    requires room { Room nodes.old (flat_map (region_nodes (view tables.now) (op_nodes (view tables.now))) (reverse (slots_of_regions (view tables.now) op))) }
+    ensures { nodes_in nodes.new ≡ nodes_in nodes.old ++ flat_map (region_nodes (view tables.now) (op_nodes (view tables.now))) (reverse (slots_of_regions (view tables.now) op)) }
+{
     if let Some(operation) = tables.operations.peek(op) {
         for region in operation.regions.as_slice().iter().rev() {
             list_region(tables, region.slot, nodes);
         }
     }
-    nodes.push(IRNode::Operation(tables.op_id(op)));
 }
 
 /// Lists what lies in the blocks of the region in the slot `region`, then the blocks, then the region.

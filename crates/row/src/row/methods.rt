@@ -7,6 +7,30 @@ use super::Row;
 use std::mem;
 
 impl<T: Copy, const N: usize> Row<T, N> {
+    // Stays: this and the next, beside `Default` and `TryFrom`, for elements that have no default.
+    /// No element; `fill` stands in the places that hold none.
+    pub fn empty(fill: T) -> Row<T, N>
+        ensures { row_items result ≡ [] }
+    {
+        Row {
+            items: [fill; N],
+            len: 0,
+        }
+    }
+
+    /// The elements of `items`, where there are places for them; `fill` stands in those that hold none.
+    pub fn from_slice(fill: T, items: &[T]) -> Option<Row<T, N>>
+        ensures { MatchOption result (N < length items.now) (λ row. row_items row ≡ items.now) }
+    {
+        let len = items.len();
+        if N < len {
+            return None;
+        }
+        let mut all = [fill; N];
+        all[..len].copy_from_slice(items);
+        Some(Row { items: all, len })
+    }
+
     pub fn len(&self) -> usize
         ensures value { result ≡ length (row_items self.now) }
         ensures bound { result ≤ N }

@@ -1,4 +1,4 @@
-use Rattle.std.proofs.Common.{◌≡◌, ℕ, ◌+◌, ◌*◌, ◌<◌, ◌≤◌, [], ◌∷◌, ◌++◌, reverse, length, drop, sym, refl, ap, ◌∙◌, arith, length-append}
+use Rattle.std.proofs.Common.{◌≡◌, ◌+◌, ◌*◌, ◌<◌, ◌≤◌, [], ◌∷◌, ◌++◌, reverse, length, drop, sym, refl, ap, ◌∙◌, arith, length-append}
 use Rattle.std.proofs.lemmas.List.{append-nil, length_push}
 use Rattle.std.proofs.lemmas.Iterator.Adapters.{YieldsList-from_rev_slice}
 use Rattle.std.proofs.lemmas.Iterator.Consumers.{YieldsList-turn, YieldsList-end}
@@ -17,7 +17,6 @@ use Rattle.walkers.specs.Listed.{nodes_in, Room}
 use Rattle.walkers.proofs.Backs.{region_in, behind, both, first_room, second_room, edge_is, listed_some, listed_none}
 use Rattle.walkers.proofs.Turns.{slice_few, slice_room, slice_turn, slice_end, linked_from, linked_end, linked_few, linked_less, linked_on, linked_room}
 use Rattle.walkers.proofs.parts.+listing.Goals as goal
-use Rattle.walkers.proofs.parts.+listing.Goals.{list_op-After-op_id, list_op-in-Some+in-None, list_op-in_default}
 
 pub list_body-loop-cursor-init : goal.list_body-loop-cursor-init
 list_body-loop-cursor-init t c =
@@ -45,31 +44,31 @@ list_body-loop-cursor-preserved t c =
     let next = c.get_prev-cursor.ensures ∙ prev_next m.ops_of m.home_of c.requires.sound.ops c.in-Some.op in
     linked_on (λ b. reverse (m.ops_of b)) m.home_of agree c.args.block c.in-Some.op c.loop-cursor.cursor c.get_prev-cursor.result c.in-Some.is c.loop-cursor.invariant.0 next (op_nodes m) (nodes_in c.loop-cursor.nodes) (nodes_in c.args.nodes.now) c.loop-cursor.invariant.1 (nodes_in c.list_op.new.nodes) c.list_op.ensures
 
-pub list_op-list_region-requires : goal.list_op-list_region-requires
-list_op-list_region-requires t c =
-    let f = region_in c.args.tables.now in
-    let rs = iter_rest (rev_source c.into_iter-region-iterator.result) in
-    let k = length c.loop-region.yielded in
-    let r = c.in-Some-region.region.now in
-    let turn = YieldsList-turn (YieldsList-from_rev_slice {s = c.into_iter-region-iterator.result} rs refl) c.loop-region.yielded c.loop-region.region-iterator c.loop-region.yielded_by c.next.result c.next.new.self c.in-Some-region.region c.in-Some-region.is c.next.ensures.steps in
-    let here = ap (λ q. length (f q)) turn.1 in
+pub list_op-list_regions-requires : goal.list_op-list_regions-requires
+list_op-list_regions-requires t c =
     let m = view c.args.tables.now in
-    let all = nodes_unfold m c.requires.sound c.args.op ∙ ap (λ ns. ns ++ node.Operation (op_id m c.args.op) ∷ []) (listed_some c.args.tables.now c.args.op c.in-Some.operation.now rs c.in-Some.ensures cc) in
-    let whole = ap length all ∙ length-append (flat_map f (reverse rs)) (node.Operation (op_id m c.args.op) ∷ []) in
-    let less : 2 * length (region_in c.args.tables.now c.in-Some-region.region.now) < t = omega (arith, c.decreases, slice_few f (reverse rs) k r turn.0, here, whole) in
-    let fits : length (nodes_in c.args.nodes.now) + length (flat_map f (reverse rs)) ≤ 768 = omega (arith, c.requires.room, whole) in
-    let room : Room c.loop-region.nodes (region_in c.args.tables.now c.in-Some-region.region.now) =
-    omega (arith, slice_room f (reverse rs) k r (nodes_in c.loop-region.nodes) (nodes_in c.args.nodes.now) (flat_map f (reverse rs)) c.loop-region.invariant 768 turn.0 fits, here) in
+    let inner = flat_map (region_nodes m (op_nodes m)) (reverse (slots_of_regions m c.args.op)) in
+    let whole = ap length (nodes_unfold m c.requires.sound c.args.op) ∙ length-append inner (node.Operation (op_id m c.args.op) ∷ []) in
+    let less : 2 * length (flat_map (region_nodes (view c.args.tables.now) (op_nodes (view c.args.tables.now))) (reverse (slots_of_regions (view c.args.tables.now) c.args.op))) + 1 < t = omega (arith, c.decreases, whole) in
+    let room : Room c.args.nodes.now (flat_map (region_nodes (view c.args.tables.now) (op_nodes (view c.args.tables.now))) (reverse (slots_of_regions (view c.args.tables.now) c.args.op))) = omega (arith, c.requires.room, whole) in
     (less, (c.requires.sound, room))
 
-pub list_op-loop-region-preserved : goal.list_op-loop-region-preserved
-list_op-loop-region-preserved t c =
-    let f = region_in c.args.tables.now in
-    let rs = iter_rest (rev_source c.into_iter-region-iterator.result) in
-    let k = length c.loop-region.yielded in
-    let turn = YieldsList-turn (YieldsList-from_rev_slice {s = c.into_iter-region-iterator.result} rs refl) c.loop-region.yielded c.loop-region.region-iterator c.loop-region.yielded_by c.next.result c.next.new.self c.in-Some-region.region c.in-Some-region.is c.next.ensures.steps in
-    ap (λ n. nodes_in c.list_region.new.nodes ++ flat_map f (drop n (reverse rs))) (length_push c.loop-region.yielded c.in-Some-region.region)
-    ∙ slice_turn f (reverse rs) k c.in-Some-region.region.now (nodes_in c.loop-region.nodes) (nodes_in c.args.nodes.now) (flat_map f (reverse rs)) c.loop-region.invariant (nodes_in c.list_region.new.nodes) turn.0 (c.list_region.ensures ∙ ap (λ q. nodes_in c.loop-region.nodes ++ f q) turn.1)
+pub list_op-push-requires : goal.list_op-push-requires
+list_op-push-requires t c =
+    let m = view c.args.tables.now in
+    let inner = flat_map (region_nodes m (op_nodes m)) (reverse (slots_of_regions m c.args.op)) in
+    let whole = ap length (nodes_unfold m c.requires.sound c.args.op) ∙ length-append inner (node.Operation (op_id m c.args.op) ∷ []) in
+    let middle = ap length c.list_regions.ensures ∙ length-append (nodes_in c.args.nodes.now) inner in
+    omega (arith, c.requires.room, whole, middle)
+
+pub list_op-returns : goal.list_op-returns
+list_op-returns t c =
+    let m = view c.args.tables.now in
+    let start = nodes_in c.args.nodes.now in
+    let last : nodes_in c.push.new.self ≡ nodes_in c.list_regions.new.nodes ++ (node.Operation (op_id m c.args.op) ∷ []) =
+    c.push.ensures ∙ ap (λ (i : OpId). nodes_in c.list_regions.new.nodes ++ (node.Operation i ∷ [])) c.op_id.ensures in
+    behind (node.Operation (op_id m c.args.op)) start (flat_map (region_nodes m (op_nodes m)) (reverse (slots_of_regions m c.args.op))) (nodes_in c.list_regions.new.nodes) (nodes_in c.push.new.self) c.list_regions.ensures last
+    ∙ ap (λ ns. start ++ ns) (sym (nodes_unfold m c.requires.sound c.args.op))
 
 pub list_region-loop-cursor-init : goal.list_region-loop-cursor-init
 list_region-loop-cursor-init t c =
@@ -122,34 +121,39 @@ list_region-returns t c =
     let end = linked_end f (nodes_in c.loop-cursor.nodes) (nodes_in c.args.nodes.now) (reverse (m.blocks_of r)) c.loop-cursor.cursor c.in_default.is c.loop-cursor.invariant.1 in
     both (nodes_in c.args.nodes.now) (flat_map f (reverse (m.blocks_of r))) (edge_nodes m r) (nodes_in c.loop-cursor.nodes) (nodes_in c.list_edge.new.nodes) end c.list_edge.ensures
 
--- what lies in the operation is listed before it
-list_op-inner : (t : ℕ) (c : list_op-After-op_id t) → nodes_in c.match-peek.nodes
-    ≡ nodes_in c.args.nodes.now ++ flat_map (region_nodes (view c.args.tables.now) (op_nodes (view c.args.tables.now))) (reverse (slots_of_regions (view c.args.tables.now) c.args.op))
-list_op-inner t c =
-    let start = nodes_in c.args.nodes.now in
+pub list_regions-list_region-requires : goal.list_regions-list_region-requires
+list_regions-list_region-requires t c =
     let f = region_in c.args.tables.now in
-    elim c.match-peek.branch [
-      | list_op-in-Some+in-None w ↦
-          let rs = iter_rest (rev_source w.into_iter-region-iterator.result) in
-          let seen = YieldsList-end (YieldsList-from_rev_slice {s = w.into_iter-region-iterator.result} rs refl) w.loop-region.yielded w.loop-region.region-iterator w.loop-region.yielded_by w.next.result w.next.new.self w.in-None.is w.next.ensures.steps in
-          ap nodes_in w.nodes-is
-          ∙ slice_end f (reverse rs) (length w.loop-region.yielded) (record { slot = 0; generation = 0 }) (nodes_in w.loop-region.nodes) start (flat_map f (reverse rs)) w.loop-region.invariant (omega (arith, seen.1))
-          ∙ ap (λ ns. start ++ ns) (sym (listed_some c.args.tables.now c.args.op w.in-Some.operation.now rs w.in-Some.ensures cc))
-      | list_op-in_default w ↦ ap nodes_in w.nodes-is ∙ sym (append-nil start) ∙ ap (λ ns. start ++ ns) (sym (listed_none c.args.tables.now c.args.op w.in_default.ensures))
-    ]
+    let rs = iter_rest (rev_source c.into_iter-region-iterator.result) in
+    let k = length c.loop-region.yielded in
+    let r = c.in-Some-region.region.now in
+    let turn = YieldsList-turn (YieldsList-from_rev_slice {s = c.into_iter-region-iterator.result} rs refl) c.loop-region.yielded c.loop-region.region-iterator c.loop-region.yielded_by c.next.result c.next.new.self c.in-Some-region.region c.in-Some-region.is c.next.ensures.steps in
+    let here = ap (λ q. length (f q)) turn.1 in
+    let whole = ap length (listed_some c.args.tables.now c.args.op c.in-Some.operation.now rs c.in-Some.ensures cc) in
+    let less : 2 * length (region_in c.args.tables.now c.in-Some-region.region.now) < t = omega (arith, c.decreases, slice_few f (reverse rs) k r turn.0, here, whole) in
+    let fits : length (nodes_in c.args.nodes.now) + length (flat_map f (reverse rs)) ≤ 768 = omega (arith, c.requires.room, whole) in
+    let room : Room c.loop-region.nodes (region_in c.args.tables.now c.in-Some-region.region.now) =
+    omega (arith, slice_room f (reverse rs) k r (nodes_in c.loop-region.nodes) (nodes_in c.args.nodes.now) (flat_map f (reverse rs)) c.loop-region.invariant 768 turn.0 fits, here) in
+    (less, (c.requires.sound, room))
 
-pub list_op-push-requires : goal.list_op-push-requires
-list_op-push-requires t c =
-    let m = view c.args.tables.now in
-    let inner = flat_map (region_nodes m (op_nodes m)) (reverse (slots_of_regions m c.args.op)) in
-    let whole = ap length (nodes_unfold m c.requires.sound c.args.op) ∙ length-append inner (node.Operation (op_id m c.args.op) ∷ []) in
-    omega (arith, c.requires.room, whole, ap length (list_op-inner t c) ∙ length-append (nodes_in c.args.nodes.now) inner)
+pub list_regions-loop-region-preserved : goal.list_regions-loop-region-preserved
+list_regions-loop-region-preserved t c =
+    let f = region_in c.args.tables.now in
+    let rs = iter_rest (rev_source c.into_iter-region-iterator.result) in
+    let k = length c.loop-region.yielded in
+    let turn = YieldsList-turn (YieldsList-from_rev_slice {s = c.into_iter-region-iterator.result} rs refl) c.loop-region.yielded c.loop-region.region-iterator c.loop-region.yielded_by c.next.result c.next.new.self c.in-Some-region.region c.in-Some-region.is c.next.ensures.steps in
+    ap (λ n. nodes_in c.list_region.new.nodes ++ flat_map f (drop n (reverse rs))) (length_push c.loop-region.yielded c.in-Some-region.region)
+    ∙ slice_turn f (reverse rs) k c.in-Some-region.region.now (nodes_in c.loop-region.nodes) (nodes_in c.args.nodes.now) (flat_map f (reverse rs)) c.loop-region.invariant (nodes_in c.list_region.new.nodes) turn.0 (c.list_region.ensures ∙ ap (λ q. nodes_in c.loop-region.nodes ++ f q) turn.1)
 
-pub list_op-returns : goal.list_op-returns
-list_op-returns t c =
-    let m = view c.args.tables.now in
+pub list_regions-returns-in-None : goal.list_regions-returns-in-None
+list_regions-returns-in-None t c =
+    let f = region_in c.args.tables.now in
     let start = nodes_in c.args.nodes.now in
-    let middle = nodes_in c.match-peek.nodes in
-    let last : nodes_in c.push.new.self ≡ middle ++ (node.Operation (op_id m c.args.op) ∷ []) = c.push.ensures ∙ ap (λ (i : OpId). middle ++ (node.Operation i ∷ [])) c.op_id.ensures in
-    behind (node.Operation (op_id m c.args.op)) start (flat_map (region_nodes m (op_nodes m)) (reverse (slots_of_regions m c.args.op))) middle (nodes_in c.push.new.self) (list_op-inner t (goal.at.list_op-returns t c).After-op_id) last
-    ∙ ap (λ ns. start ++ ns) (sym (nodes_unfold m c.requires.sound c.args.op))
+    let rs = iter_rest (rev_source c.into_iter-region-iterator.result) in
+    let seen = YieldsList-end (YieldsList-from_rev_slice {s = c.into_iter-region-iterator.result} rs refl) c.loop-region.yielded c.loop-region.region-iterator c.loop-region.yielded_by c.next.result c.next.new.self c.in-None.is c.next.ensures.steps in
+    slice_end f (reverse rs) (length c.loop-region.yielded) (record { slot = 0; generation = 0 }) (nodes_in c.loop-region.nodes) start (flat_map f (reverse rs)) c.loop-region.invariant (omega (arith, seen.1))
+    ∙ ap (λ ns. start ++ ns) (sym (listed_some c.args.tables.now c.args.op c.in-Some.operation.now rs c.in-Some.ensures cc))
+
+pub list_regions-returns-in_default : goal.list_regions-returns-in_default
+list_regions-returns-in_default t c =
+    sym (append-nil (nodes_in c.args.nodes.now)) ∙ ap (λ ns. nodes_in c.args.nodes.now ++ ns) (sym (listed_none c.args.tables.now c.args.op c.in_default.ensures))

@@ -1,13 +1,21 @@
-use Rattle.std.proofs.Common.{rules, tests, refl, ◌∙◌}
-use Rattle.std.proofs.lemmas.Iterator.{YieldsList-from_slice}
-use Rattle.std.proofs.lemmas.Iterator.Consumers.{YieldsList-from_filter, count_from_yields_List}
+use Rattle.std.proofs.Common.{cond, vec_items, rules, tests, arith, sym, ◌∙◌}
+use Rattle.std.proofs.lemmas.List.Sums.{length-filter, count_by-le-length}
+use Rattle.std.proofs.lemmas.Iterator.{YieldsList-from_slice, YieldsList-from_map}
+use Rattle.std.proofs.lemmas.Iterator.Consumers.{sum_by_from_yields_List, fits_by_from_yields_list}
 use Rattle.slots.specs.Cells.{cell_of, is_live}
 use Rattle.slots.specs.declared.table.Slot.{Slot}
 use Rattle.slots.proofs.SlotLaws.{lives_filtered}
 use Rattle.slots.proofs.table.Table.live_count.Goals as goal
 
+pub sum-requires-clause-fits : goal.sum-requires-clause-fits
+sum-requires-clause-fits g c =
+    let xs = vec_items c.args.self.now.slots in
+    fits_by_from_yields_list _ _ c.map.result _ (YieldsList-from_map _ (λ (s : Slot _). cond (is_live (cell_of s)) 1 0) (YieldsList-from_slice xs cc) c.map.ensures.closure (λ x r q k. search (rules, tests)))
+    (omega (arith, count_by-le-length (λ (s : Slot _). is_live (cell_of s)) xs))
+
 pub returns : goal.returns
 returns g c =
-    count_from_yields_List _ c.count.result c.count.ensures.ran
-    (YieldsList-from_filter _ (λ (s : Slot _). is_live (cell_of s)) (YieldsList-from_slice c.args.self.now.slots.items cc) refl (λ x b q k. search (rules, tests)))
-    ∙ lives_filtered c.args.self.now.slots.items
+    let xs = vec_items c.args.self.now.slots in
+    sum_by_from_yields_List _ _ c.map.result _ c.sum.ensures.ran (YieldsList-from_map _ (λ (s : Slot _). cond (is_live (cell_of s)) 1 0) (YieldsList-from_slice xs cc) c.map.ensures.closure (λ x r q k. search (rules, tests)))
+    ∙ sym (length-filter (λ (s : Slot _). is_live (cell_of s)) xs)
+    ∙ lives_filtered xs

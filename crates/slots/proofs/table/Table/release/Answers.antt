@@ -8,4 +8,4 @@ pub returns-then-slot-len : goal.returns-then-slot-len
 returns-then-slot-len g c =
     let xs = vec_items c.args.self.now.slots in
     map-set cell_of xs c.args.slot _
-    ∙ ap (set (map cell_of xs) c.args.slot) (c.released.ensures ∙ ap retired (sym (cell_read xs c.args.slot c.index.result.now (omega arith) c.index.ensures)))
+    ∙ ap (set (map cell_of xs) c.args.slot) (c.release.ensures ∙ ap retired (sym (cell_read xs c.args.slot _ (omega arith) c.index_mut.ensures.value)))
