@@ -4,20 +4,21 @@ use model::ids::{BlockId, DefiningEntity, IRNode, OpId, RegionId, Value};
 use model::points::{BlockInsertionPoint, OpInsertionPoint};
 use rewriter::{IRRewriter, Recorder};
 use std::alloc::{AllocError, Global};
-use std::collections::BTreeMap;
+use std::collections::{BTreeMap, HashMap};
 use store::store::Store;
 use walkers::Nodes;
 
+/// The names are pieces of the text that the calls stand in.
 #[derive(Drop)]
-pub struct Bench {
+pub struct Bench<'a> {
     pub heap: Global,
     pub store: Store,
     pub rewriter: IRRewriter<Recorder>,
     pub nodes: Nodes,
     /// The last thing of each name.
-    named: BTreeMap<String, IRNode>,
+    named: HashMap<&'a str, IRNode>,
     /// The name of each thing.
-    pub names: BTreeMap<IRNode, String>,
+    pub names: BTreeMap<IRNode, &'a str>,
 }
 
 /// The slot of what was never made.
@@ -29,14 +30,14 @@ const NO_OP: OpId = OpId {
     generation: 0,
 };
 
-impl Bench {
-    pub fn new(heap: Global) -> Result<Bench, AllocError> {
+impl<'a> Bench<'a> {
+    pub fn new(heap: Global) -> Result<Bench<'a>, AllocError> {
         Ok(Bench {
             heap,
             store: Store::new(heap)?,
             rewriter: IRRewriter::new(heap, Recorder::new(heap)?)?,
             nodes: Nodes::new(heap)?,
-            named: BTreeMap::new(heap),
+            named: HashMap::new(heap),
             names: BTreeMap::new(heap),
         })
     }
@@ -152,16 +153,18 @@ impl Bench {
     }
 
     /// Gives a node that was just made this name.
-    pub fn call(&mut self, name: &str, node: IRNode) -> Result<(), AllocError> {
-        self.named.insert(String::from_str(self.heap, name)?, node)?;
-        self.names.insert(node, String::from_str(self.heap, name)?)?;
+    pub fn call(&mut self, name: &'a str, node: IRNode) -> Result<(), AllocError> {
+        self.named.insert(name, node)?;
+        self.names.insert(node, name)?;
         Ok(())
     }
 
     /// The name of a node, `?` where it has none.
-    pub fn name_of<N: Into<IRNode>>(&self, node: N) -> &str {
-        self.names
-            .get(&node.into())
-            .map_or("?", |name| name.as_str())
+    pub fn name_of<N: Into<IRNode>>(&self, node: N) -> &'a str {
+        let node = node.into();
+        match self.names.get(&node) {
+            Some(name) => *name,
+            None => "?",
+        }
     }
 }

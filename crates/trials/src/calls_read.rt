@@ -6,8 +6,8 @@ use model::refusal::Refusal;
 use orders::call_error::CallError;
 use std::alloc::AllocError;
 
-impl Bench {
-    fn make(&mut self, line: &str) -> Result<(), CallError> {
+impl<'a> Bench<'a> {
+    fn make(&mut self, line: &'a str) -> Result<(), CallError> {
         let operands = self.values(line, 4)?;
         let types = self.types(line)?;
         let marks = self.marks(line)?;
@@ -27,7 +27,7 @@ impl Bench {
         Ok(())
     }
 
-    fn create(&mut self, name: &str, line: &str) -> Result<(), CallError> {
+    fn create(&mut self, name: &'a str, line: &'a str) -> Result<(), CallError> {
         let point = self.block_point(line, 2);
         let types = self.types(line)?;
         let block = self
@@ -46,12 +46,11 @@ impl Bench {
     }
 
     /// Makes a call of the rewriter, and answers `ok`; any other word is for `read`.
-    fn change(&mut self, line: &str) -> Result<String, CallError> {
+    fn change(&mut self, line: &'a str) -> Result<String, CallError> {
         let mut words = line.split_whitespace();
         let call = words.next().unwrap_or("");
         let first = words.next().unwrap_or("");
         let second = words.next().unwrap_or("");
-        let op = self.op(first);
         // Stays: the first word of a line names its call; one match is the plainest table of them.
         match call {
             "make" => self.make(line)?,
@@ -60,10 +59,20 @@ impl Bench {
                 let point = self.op_point(line, 1);
                 self.rewriter.set_insertion_point(point);
             }
-            "insert" => self.rewriter.insert_operation(&mut self.store, op)?,
-            "append" => self.rewriter.append_operation(&mut self.store, op)?,
-            "unlink" => self.rewriter.unlink_operation(&mut self.store, op)?,
+            "insert" => {
+                let op = self.op(first);
+                self.rewriter.insert_operation(&mut self.store, op)?;
+            }
+            "append" => {
+                let op = self.op(first);
+                self.rewriter.append_operation(&mut self.store, op)?;
+            }
+            "unlink" => {
+                let op = self.op(first);
+                self.rewriter.unlink_operation(&mut self.store, op)?;
+            }
             "move" => {
+                let op = self.op(first);
                 let point = self.op_point(line, 2);
                 self.rewriter.move_operation(&mut self.store, op, point)?;
             }
@@ -79,10 +88,12 @@ impl Bench {
                     .replace_value_uses_with(&mut self.store, old, new)?;
             }
             "replace" => {
+                let op = self.op(first);
                 let new = self.op(second);
                 self.rewriter.replace_operation(&mut self.store, op, new)?;
             }
             "values" => {
+                let op = self.op(first);
                 let values = self.values(line, 2)?;
                 self.rewriter
                     .replace_operation_with_values(&mut self.store, op, values.as_slice())?;
@@ -164,7 +175,7 @@ impl Bench {
     }
 
     /// Makes the call that the line tells, and answers what is to be printed of it: of a refused one its number, and whether all is as it was.
-    pub fn run(&mut self, line: &str) -> Result<String, AllocError> {
+    pub fn run(&mut self, line: &'a str) -> Result<String, AllocError> {
         let before = self.snapshot()?;
         match self.change(line) {
             Ok(answer) => Ok(answer),

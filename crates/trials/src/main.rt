@@ -11,13 +11,11 @@ use crate::bench::Bench;
 use orders::line::is_blank;
 use std::io;
 
-fn main(rt: HostRuntime) -> io::Result<()> {
+/// Runs the calls that `text` tells, a line each.
+fn run(rt: &HostRuntime, text: &str) -> io::Result<()> {
     let heap = rt.alloc();
-    let Ok(text) = io::read_to_string(heap, rt.stdin()) else {
-        return println!(rt; "no text");
-    };
     let mut bench = Bench::new(heap)?;
-    for line in text.as_str().lines().filter(|line| !is_blank(line)) {
+    for line in text.lines().filter(|line| !is_blank(line)) {
         match line.split_whitespace().next() {
             Some("new") => {
                 bench = Bench::new(heap)?;
@@ -30,4 +28,11 @@ fn main(rt: HostRuntime) -> io::Result<()> {
         }
     }
     Ok(())
+}
+
+fn main(rt: HostRuntime) -> io::Result<()> {
+    let Ok(text) = io::read_to_string(rt.alloc(), rt.stdin()) else {
+        return println!(rt; "no text");
+    };
+    run(&rt, text.as_str())
 }

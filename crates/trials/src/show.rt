@@ -7,7 +7,7 @@ use orders::types::Types;
 use std::alloc::AllocError;
 use std::fmt::Write;
 
-impl Bench {
+impl Bench<'_> {
     /// A node by its name; a region by its owner's.
     fn node_text(&self, node: IRNode) -> Result<String, AllocError> {
         match node {
